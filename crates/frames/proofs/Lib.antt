@@ -1,0 +1,11 @@
+pub mod Linear
+pub mod Runs
+pub mod Bursts
+pub mod Serial
+pub mod Tables
+pub mod Checks
+pub mod ControlOctets
+pub mod Reading
+pub mod Writing
+pub mod RoundTrips
+pub mod Strikes

@@ -1,0 +1,9 @@
+pub mod Refusals
+pub mod Parts
+pub mod Fcs
+pub mod Control
+pub mod Reader
+pub mod Writer
+pub mod Bits
+pub mod Laws
+pub mod Facts
