@@ -9,3 +9,4 @@ pub mod Reading
 pub mod Writing
 pub mod RoundTrips
 pub mod Strikes
+pub mod BlockParts

@@ -21,7 +21,7 @@ use Rattle.frames.specs.Parts.{Head, head, Parts, parts, head-of, info-of, inf
 use Rattle.frames.specs.Fcs.{check-octets, before, Checked}
 use Rattle.frames.specs.Control.{carries, numbered, control, control-answer, decode}
 use Rattle.frames.specs.Reader.{address, control-octet, information, stray, said, said-answer, read-answer}
-use Rattle.frames.specs.Writer.{octets-of, admit-by, admit, octets-by, frame-octets}
+use Rattle.frames.specs.Writer.{octets-of, admit-by, admit-answer, octets-by, frame-octets}
 use Rattle.frames.proofs.Checks.{checked-of, checks-of}
 use Rattle.frames.proofs.ControlOctets.{says, written-from}
 use Rattle.frames.proofs.Reading.{past, passes, found}
@@ -61,7 +61,7 @@ granted k s r b i h =
 
 pub written-read : (w : Way) (p : Parts) (os : List ℕ) → frame-octets w p ≡ Ok os → read-answer w os ≡ Ok p
 written-read w (parts k s r b i) os e =
-    let x = coded (admit w (parts k s r b i)) i os e in
+    let x = coded (admit-answer w (parts k s r b i)) i os e in
     let c : ℕ = x .0 in
     let a = past (ltb 64 (length i)) Long (admit-by (control-answer w (head k s r b)) (stray k i)) c (x .1) in
     let d = admitted (control-answer w (head k s r b)) (stray k i) c (a .1) in
@@ -79,7 +79,7 @@ written-read w (parts k s r b i) os e =
 pub record Told (o : Option Head) (i : List ℕ) (p : Parts) : Type 0 where
   pub head : o ≡ Some (head-of p)
   pub info : i ≡ info-of p
-  pub admits : (w : Way) (c : ℕ) → length i ≤ 64 → control-answer w (head-of p) ≡ Some c → admit w p ≡ Ok c
+  pub admits : (w : Way) (c : ℕ) → length i ≤ 64 → control-answer w (head-of p) ≡ Some c → admit-answer w p ≡ Ok c
 
 told : (o : Option Head) (i : List ℕ) (p : Parts) → said o i ≡ Ok p → Told o i p
 told None i p h = absurd (let z : _≡_ {A = ℕ} 0 1 = cc in omega arith)
@@ -92,7 +92,7 @@ told (Some (head k s r b)) i (parts l t u v j) h =
       head = ap (λ x. Some (head-of x)) f;
       info = ap info-of f;
       admits = λ w c short g.
-          ap (admit w) (sym f)
+          ap (admit-answer w) (sym f)
           ∙ ap (λ (t : Bool). refuse t Long (admit-by (control-answer w (head k s r b)) (stray k i))) (le-ltb 64 (length i) short)
           ∙ ap₂ admit-by (ap (λ x. control-answer w (head-of x)) f ∙ g) (q .0);
     }
@@ -117,5 +117,5 @@ read-written w os p octets h =
     let s = told (decode w c) (information os) p (f .said) in
     let short : length (information os) ≤ 64 =
     simp (length-take, length-drop) (let lo = f .low in let hi = f .high in omega arith) in
-    let a : admit w p ≡ Ok c = s .admits w c short (written-from w c (head-of p) (octets 1) (s .head)) in
+    let a : admit-answer w p ≡ Ok c = s .admits w c short (written-from w c (head-of p) (octets 1) (s .head)) in
     ap₂ octets-by a (sym (s .info)) ∙ ap Ok (whole os (f .low) (f .here) (checked-of os (f .good) .1))

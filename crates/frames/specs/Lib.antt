@@ -1,5 +1,6 @@
 pub mod Refusals
 pub mod Parts
+pub mod Blocks
 pub mod Fcs
 pub mod Control
 pub mod Reader

@@ -27,8 +27,8 @@ admit-by None astray = Err Control
 admit-by (Some c) astray = refuse astray Stray (Ok c)
 
 -- the control octet of a frame that can be written: long, control and stray are looked for in that order
-abbrev pub admit : Way → Parts → Result ℕ FrameRefusal
-admit w (parts k ns nr b info) =
+abbrev pub admit-answer : Way → Parts → Result ℕ FrameRefusal
+admit-answer w (parts k ns nr b info) =
     refuse (ltb 64 (length info)) Long (admit-by (control-answer w (head k ns nr b)) (stray k info))
 
 abbrev pub octets-by : Result ℕ FrameRefusal → List ℕ → Result (List ℕ) FrameRefusal
@@ -37,7 +37,7 @@ octets-by (Ok c) info = Ok (octets-of c info)
 
 -- the octets of a frame, or why it has none
 abbrev pub frame-octets : Way → Parts → Result (List ℕ) FrameRefusal
-frame-octets w p = octets-by (admit w p) (info-of p)
+frame-octets w p = octets-by (admit-answer w p) (info-of p)
 
 -- and where there is no room for them, no space
 abbrev pub fitted : Result (List ℕ) FrameRefusal → ℕ → Result (List ℕ) FrameRefusal

@@ -1,8 +1,10 @@
 // The frames of the link as octets: their kinds, their check sequence, reading, writing and bit errors.
 mod bits;
+mod block;
 mod control;
 mod fcs;
 mod frame;
+mod frame_buf;
 mod kind;
 mod reader;
 mod refusal;
@@ -10,9 +12,11 @@ mod way;
 mod writer;
 
 pub use bits::strike;
+pub use block::Block;
 pub use fcs::check_sequence;
 pub use frame::Frame;
 pub use frame::FrameDebug;
+pub use frame_buf::FrameBuf;
 pub use kind::Kind;
 pub use kind::KindDebug;
 pub use kind::KindPartialEq;
@@ -23,4 +27,5 @@ pub use refusal::FrameRefusalPartialEq;
 pub use way::Way;
 pub use way::WayDebug;
 pub use way::WayPartialEq;
+pub use writer::admit;
 pub use writer::write;

@@ -4,7 +4,7 @@ ghost use mathlib.Core.List.{_++_};
 ghost use Prim.Native.Nat.{_+_, _≤_};
 ghost use lib.ListN.{length, drop};
 ghost use Rattle.frames.specs.Parts.{parts};
-ghost use Rattle.frames.specs.Writer.{octets-of, admit, write-answer, write-leaves};
+ghost use Rattle.frames.specs.Writer.{octets-of, admit-answer, write-answer, write-leaves};
 ghost use Rattle.frames.specs.Laws.{Reads-back};
 use crate::FrameRefusal;
 use crate::Kind;
@@ -13,9 +13,9 @@ use crate::Way;
 use crate::control::control_of;
 use crate::fcs::check_sequence;
 
-// The control octet of a frame that can be written, or why the frame cannot be.
-fn admitted(way: Way, kind: Kind, ns: u8, nr: u8, b: u8, info: &[u8]) -> Result<u8, FrameRefusal>
-    ensures { λ r. ⌜ r ≡ admit way (parts kind ns nr b (now (info .entry))) ⌝ }
+// The control octet of a frame that can be written, or why the frame cannot be: long, control or stray.
+pub fn admit(way: Way, kind: Kind, ns: u8, nr: u8, b: u8, info: &[u8]) -> Result<u8, FrameRefusal>
+    ensures { λ r. ⌜ r ≡ admit-answer way (parts kind ns nr b (now (info .entry))) ⌝ }
 {
     if info.len() > 64 {
         return Err(FrameRefusal::Long);
@@ -58,7 +58,7 @@ pub fn write(
     ensures leaves { λ _. ⌜ now (out .exit) ≡ write-leaves way (parts kind ns nr b (now (info .entry))) (now (out .entry)) ⌝ }
     ensures reads_back { λ r. ⌜ Reads-back way (parts kind ns nr b (now (info .entry))) r (now (out .exit)) ⌝ }
 {
-    let control = admitted(way, kind, ns, nr, b, info)?;
+    let control = admit(way, kind, ns, nr, b, info)?;
     let len = info.len() + 4;
     if out.len() < len {
         return Err(FrameRefusal::NoSpace);

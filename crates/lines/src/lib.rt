@@ -1,0 +1,9 @@
+// The line between two modules: one interface, and its implementations over lent memory.
+mod line;
+mod refusal;
+
+pub use line::Line;
+pub use refusal::FrameToLine;
+pub use refusal::LineRefusal;
+pub use refusal::LineRefusalDebug;
+pub use refusal::LineRefusalPartialEq;
