@@ -1,0 +1,5 @@
+pub mod Refusals
+pub mod State
+pub mod Calls
+pub mod History
+pub mod Promise

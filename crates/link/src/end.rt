@@ -1,0 +1,6 @@
+// The two ends of a link.
+#[derive(Clone, Copy, PartialEq, Eq, Debug)]
+pub enum End {
+    Primary,
+    Secondary,
+}

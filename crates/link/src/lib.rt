@@ -1,0 +1,12 @@
+// The link between two modules: two stations over one line, and what it promises over every history.
+mod end;
+mod refusal;
+
+pub use end::End;
+pub use end::EndDebug;
+pub use end::EndPartialEq;
+pub use refusal::LineToLink;
+pub use refusal::LinkRefusal;
+pub use refusal::LinkRefusalDebug;
+pub use refusal::LinkRefusalPartialEq;
+pub use refusal::StationToLink;
