@@ -1,6 +1,9 @@
 pub mod Refusals
 pub mod Station
+pub mod Blocks
 pub mod Puts
 pub mod Rule
+pub mod Views
+pub mod Answers
 pub mod Secondary
 pub mod Primary

@@ -47,10 +47,10 @@ passed x nr = (nr + (8 - x .va)) % 8
 abbrev pub allowed : Station → ℕ → Bool
 allowed x nr = leb (passed x nr) (outstanding x)
 
--- V(A) becomes N(R), and the blocks passed leave the window
+-- V(A) becomes N(R) modulo 8, and the blocks passed leave the window
 abbrev pub acknowledge : Station → ℕ → Station
 acknowledge x nr =
-    record { vs = x .vs; va = nr; vr = x .vr; window = drop (passed x nr) (x .window); busy = x .busy; waiting = x .waiting }
+    record { vs = x .vs; va = nr % 8; vr = x .vr; window = drop (passed x nr) (x .window); busy = x .busy; waiting = x .waiting }
 
 -- a block is wanted where its N(S) is V(R) and fewer than 7 wait
 abbrev pub wanted : Station → ℕ → Bool

@@ -1,17 +1,31 @@
 // The two stations of the link: the primary and the secondary, each over any line.
 mod answer;
 mod mode;
+mod puts;
+mod queue;
 mod refusal;
+mod rows;
+mod station;
+mod window;
 
 pub use answer::Counts;
 pub use answer::CountsDebug;
 pub use answer::CountsPartialEq;
+pub use answer::Heard;
+pub use answer::HeardDebug;
+pub use answer::HeardPartialEq;
 pub use answer::Taken;
 pub use answer::TakenDebug;
 pub use answer::TakenPartialEq;
 pub use mode::Mode;
 pub use mode::ModeDebug;
 pub use mode::ModePartialEq;
+pub use queue::Queue;
 pub use refusal::StationRefusal;
 pub use refusal::StationRefusalDebug;
 pub use refusal::StationRefusalPartialEq;
+pub use station::FarStatus;
+pub use station::FarStatusDebug;
+pub use station::FarStatusPartialEq;
+pub use station::Station;
+pub use window::Window;

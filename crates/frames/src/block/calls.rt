@@ -34,12 +34,28 @@ impl Block {
         })
     }
 
+    // Holds these octets from now on, if there are at most 64; otherwise answers no and stays as it was.
+    pub fn write(&mut self, octets: &[u8]) -> bool
+        ensures answers { λ r. ⌜ r ≡ leb (length (now (octets .entry))) 64 ⌝ }
+        ensures leaves { λ r. ⌜ octets-in (now (self .exit)) ≡ cond r (now (octets .entry)) (octets-in (now (self .entry))) ⌝ }
+    {
+        let n = octets.len();
+        if n > 64 {
+            return false;
+        }
+        self.octets[0..n].copy_from_slice(octets);
+        self.len = n;
+        true
+    }
+
+    // How many octets it has.
     pub fn len(&self) -> usize
         ensures { λ r. ⌜ r ≡ length (octets-in (now (self .entry))) ⌝ }
     {
         self.len
     }
 
+    // Its octets.
     pub fn octets(&self) -> &[u8]
         ensures { λ r. ⌜ now r ≡ octets-in (now (self .entry)) ⌝ }
     {
