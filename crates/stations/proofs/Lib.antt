@@ -1,3 +1,5 @@
 pub mod BlockRows
 pub mod Delivered
 pub mod Numbers
+pub mod Admitted
+pub mod Resends

@@ -4,6 +4,8 @@ use mathlib.Core.List.{List, [], _∷_, _++_}
 use mathlib.Core.Bool.{Bool, true, false}
 use lib.Dec.{ltb}
 use lib.ListN.{length}
+use Rattle.std.specs.declared.option.Option.{Option}
+use Rattle.std.specs.declared.option.Option.the-variants.{Some, None}
 use Rattle.frames.specs.declared.kind.Kind.{Kind}
 use Rattle.frames.specs.declared.kind.Kind.the-variants.{I}
 use Rattle.frames.specs.Parts.{Parts, parts}
@@ -30,6 +32,11 @@ status x = parts (own-status x) 0 (x .vr) 1 []
 -- a block as an I frame: B is 0, N(R) is V(R)
 abbrev pub inform : Station → ℕ → Block → Parts
 inform x ns z = parts I ns (x .vr) 0 z
+
+-- the block at a place, if there is one
+abbrev pub put-at : ℕ → Station → ℕ → Option Block → List Entry → List Entry
+put-at k x ns None es = es
+put-at k x ns (Some z) es = put k es (inform x ns z)
 
 -- sending again: every outstanding block, oldest first, under its old N(S)
 abbrev pub again-from : ℕ → Station → ℕ → List Block → List Entry → List Entry

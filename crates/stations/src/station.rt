@@ -6,6 +6,7 @@ ghost use Rattle.stations.specs.Blocks.{in-window};
 use crate::Queue;
 use crate::Window;
 
+mod again;
 mod calls;
 
 // The status that the other end told last: RR or RNR.
