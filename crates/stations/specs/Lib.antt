@@ -3,7 +3,8 @@ pub mod Station
 pub mod Blocks
 pub mod Puts
 pub mod Rule
-pub mod Views
-pub mod Answers
 pub mod Secondary
 pub mod Primary
+pub mod Views
+pub mod Answers
+pub mod Calls

@@ -1,5 +1,5 @@
 -- What a station puts on its outgoing way; a frame that finds no room is lost.
-use Prim.Native.Nat.{ℕ, _+_, _-_, _%_}
+use Prim.Native.Nat.{ℕ, zero, suc, _+_, _-_, _%_}
 use mathlib.Core.List.{List, [], _∷_, _++_}
 use mathlib.Core.Bool.{Bool, true, false}
 use lib.Dec.{ltb}
@@ -59,7 +59,12 @@ tries-by false zs = length zs
 abbrev pub again-tries : Station → ℕ
 again-tries x = tries-by (x .busy) (x .window)
 
+-- nothing tried: nothing put or lost
+abbrev pub no-counts : Counts
+no-counts = record { put = 0; lost = 0 }
+
 -- of so many frames tried, those by which the way grew were put, and the others lost
 abbrev pub counts : ℕ → List Entry → List Entry → Counts
-counts tried before after =
-    record { put = length after - length before; lost = tried - (length after - length before) }
+counts zero before after = no-counts
+counts (suc n) before after =
+    record { put = length after - length before; lost = suc n - (length after - length before) }

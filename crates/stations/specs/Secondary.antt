@@ -1,5 +1,5 @@
 -- The secondary's rules: what it does on each frame, by whether it is open.
-use Prim.Native.Nat.{ℕ, _+_}
+use Prim.Native.Nat.{ℕ, suc}
 use mathlib.Core.List.{List, []}
 use mathlib.Core.Bool.{Bool, true, false}
 use lib.Dec.{eqb}
@@ -46,7 +46,7 @@ final-by false true k x out = again k x (put k out (status x))
 abbrev pub final-tries : Bool → Bool → Station → ℕ
 final-tries true poll x = 0
 final-tries false false x = 0
-final-tries false true x = 1 + again-tries x
+final-tries false true x = suc (again-tries x)
 
 abbrev pub heard-block : Heard → List Entry → Reply
 heard-block h out =

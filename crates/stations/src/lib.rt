@@ -1,10 +1,12 @@
 // The two stations of the link: the primary and the secondary, each over any line.
 mod answer;
 mod mode;
+mod primary;
 mod puts;
 mod queue;
 mod refusal;
 mod rows;
+mod secondary;
 mod station;
 mod window;
 
@@ -20,10 +22,15 @@ pub use answer::TakenPartialEq;
 pub use mode::Mode;
 pub use mode::ModeDebug;
 pub use mode::ModePartialEq;
+pub use primary::Primary;
 pub use queue::Queue;
 pub use refusal::StationRefusal;
 pub use refusal::StationRefusalDebug;
 pub use refusal::StationRefusalPartialEq;
+pub use secondary::Secondary;
+pub use secondary::SecondaryMode;
+pub use secondary::SecondaryModeDebug;
+pub use secondary::SecondaryModePartialEq;
 pub use station::FarStatus;
 pub use station::FarStatusDebug;
 pub use station::FarStatusPartialEq;

@@ -1,6 +1,7 @@
 // A frame that the line has no room for is lost.
 ghost use mathlib.Core.Path.{_≡_};
 ghost use mathlib.Core.Bool.{true};
+ghost use Prim.Native.Nat.{_≤_};
 ghost use Rattle.std.specs.Results.{isOk};
 ghost use Rattle.frames.specs.Parts.{parts};
 ghost use Rattle.frames.specs.Writer.{admit-answer};
@@ -23,6 +24,7 @@ pub(crate) fn deliver<L: Line>(
 ) -> Counts
     requires { ⌜ isOk (admit-answer way (parts kind ns nr b (now info))) ≡ true ⌝ }
     ensures answers { λ r. ⌜ r ≡ counts 1 (on way (L·Line .meaning (now (line .entry)))) (put (L·Line .meaning (now (line .entry)) .capacity) (on way (L·Line .meaning (now (line .entry)))) (parts kind ns nr b (now (info .entry)))) ⌝ }
+    ensures few { λ r. ⌜ (r .put ≤ 1) × (r .lost ≤ 1) ⌝ }
     ensures leaves { λ _. ⌜ L·Line .meaning (now (line .exit)) ≡ with-way way (put (L·Line .meaning (now (line .entry)) .capacity) (on way (L·Line .meaning (now (line .entry)))) (parts kind ns nr b (now (info .entry)))) (L·Line .meaning (now (line .entry))) ⌝ }
     ensures keeps { λ _. ⌜ L·Line .beyond (now (line .exit)) ≡ L·Line .beyond (now (line .entry)) ⌝ }
     ensures tidy { λ _. ⌜ (L·Line .tidy (now (line .entry)) → L·Line .tidy (now (line .exit))) ⌝ }

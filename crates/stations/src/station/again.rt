@@ -30,6 +30,7 @@ impl Station {
 
     fn put_window<L: Line>(&self, line: &mut L, way: Way) -> Counts
         ensures answers { λ r. ⌜ r ≡ counts (length (station-of (now (self .entry)) .window)) (on way (L·Line .meaning (now (line .entry)))) (again-from (L·Line .meaning (now (line .entry)) .capacity) (station-of (now (self .entry))) (now (self .entry) .va) (station-of (now (self .entry)) .window) (on way (L·Line .meaning (now (line .entry))))) ⌝ }
+        ensures few { λ r. ⌜ (r .put ≤ 7) × (r .lost ≤ 7) ⌝ }
         ensures leaves { λ _. ⌜ L·Line .meaning (now (line .exit)) ≡ with-way way (again-from (L·Line .meaning (now (line .entry)) .capacity) (station-of (now (self .entry))) (now (self .entry) .va) (station-of (now (self .entry)) .window) (on way (L·Line .meaning (now (line .entry))))) (L·Line .meaning (now (line .entry))) ⌝ }
         ensures keeps { λ _. ⌜ L·Line .beyond (now (line .exit)) ≡ L·Line .beyond (now (line .entry)) ⌝ }
         ensures tidy { λ _. ⌜ (L·Line .tidy (now (line .entry)) → L·Line .tidy (now (line .exit))) ⌝ }
@@ -47,6 +48,7 @@ impl Station {
     // It is skipped at far status RNR.
     pub(crate) fn again<L: Line>(&self, line: &mut L, way: Way) -> Counts
         ensures answers { λ r. ⌜ r ≡ counts (again-tries (station-of (now (self .entry)))) (on way (L·Line .meaning (now (line .entry)))) (again (L·Line .meaning (now (line .entry)) .capacity) (station-of (now (self .entry))) (on way (L·Line .meaning (now (line .entry))))) ⌝ }
+        ensures few { λ r. ⌜ (r .put ≤ 7) × (r .lost ≤ 7) ⌝ }
         ensures leaves { λ _. ⌜ L·Line .meaning (now (line .exit)) ≡ with-way way (again (L·Line .meaning (now (line .entry)) .capacity) (station-of (now (self .entry))) (on way (L·Line .meaning (now (line .entry))))) (L·Line .meaning (now (line .entry))) ⌝ }
         ensures keeps { λ _. ⌜ L·Line .beyond (now (line .exit)) ≡ L·Line .beyond (now (line .entry)) ⌝ }
         ensures tidy { λ _. ⌜ (L·Line .tidy (now (line .entry)) → L·Line .tidy (now (line .exit))) ⌝ }

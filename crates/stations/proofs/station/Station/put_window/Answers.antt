@@ -60,7 +60,9 @@ returns g c =
       answers =
           ap (counting (c .loop-i .put)) (c .len-n .ensures)
           ∙ counts-as (length (x .window)) (c .loop-i .put) (on w l) (again-from (l .capacity) x (x .va) (x .window) (on w l))
-          (c .loop-i .inv .2 ∙ ap length done);
+          (omega (arith, c .loop-i .inv .3, c .loop-i .kept, c .len-n .ensures)) (c .loop-i .inv .2 ∙ ap length done);
+      few =
+          (let s = c .args .self .now in (omega (arith, s .outstanding, c .loop-i .inv .3, c .loop-i .kept, c .len-n .ensures), omega (arith, s .outstanding, c .len-n .ensures)));
       leaves = c .loop-i .inv .0 ∙ ap (λ es. with-way w es l) done;
       keeps = c .loop-i .inv .5;
       tidy = c .loop-i .inv .6;
