@@ -1,8 +1,8 @@
 -- What each call on a link answers, and what the link then holds.
 use Prim.Native.Nat.{ℕ}
-use mathlib.Core.List.{List, [], _∷_}
+use mathlib.Core.List.{List, [], _∷_, _++_}
 use mathlib.Core.Bool.{Bool, true, false, cond}
-use lib.ListN.{length}
+use lib.ListN.{length, drop}
 use Rattle.std.specs.Results.{isOk}
 use Rattle.std.specs.declared.option.Option.{Option}
 use Rattle.std.specs.declared.option.Option.the-variants.{Some, None}
@@ -23,6 +23,7 @@ use Rattle.stations.specs.Station.{Block}
 use Rattle.stations.specs.Puts.{counts}
 use Rattle.stations.specs.Primary.{Move, primary-hears, primary-ticks, primary-opens, primary-closes, primary-polls, primary-sends}
 use Rattle.stations.specs.Secondary.{Reply, secondary-hears, secondary-sends}
+use Rattle.link.specs.declared.fetched.Fetched.{Fetched}
 use Rattle.link.specs.declared.end.End.{End}
 use Rattle.link.specs.declared.end.End.the-variants.{Primary, Secondary}
 use Rattle.link.specs.declared.refusal.LinkRefusal.{LinkRefusal}
@@ -134,6 +135,15 @@ fetched-by (Ok z) = Ok z
 abbrev pub fetches-answer : End → State → Result Block LinkRefusal
 fetches-answer Primary (state one two m t u p s) = fetched-by (end.fetch-answer p)
 fetches-answer Secondary (state one two m t u p s) = fetched-by (end.fetch-answer s)
+
+-- it answers the block's length, and writes the block to the front of the place
+abbrev pub fetched : Result Block LinkRefusal → Result Fetched LinkRefusal
+fetched (Err e) = Err e
+fetched (Ok z) = Ok (record { counts = none-put; length = length z })
+
+abbrev pub fetch-writes : Result Block LinkRefusal → List ℕ → List ℕ
+fetch-writes (Err e) place = place
+fetch-writes (Ok z) place = z ++ drop (length z) place
 
 abbrev pub fetches-leaves : End → State → State
 fetches-leaves Primary (state one two m t u p s) = state one two m t u (end.fetch-leaves p) s

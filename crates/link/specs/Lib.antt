@@ -1,5 +1,7 @@
 pub mod Refusals
 pub mod State
+pub mod Views
+pub mod Questions
 pub mod Calls
 pub mod History
 pub mod Promise

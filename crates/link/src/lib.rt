@@ -1,10 +1,16 @@
 // The link between two modules: two stations over one line, and what it promises over every history.
 mod end;
+mod fetched;
+mod link;
 mod refusal;
 
 pub use end::End;
 pub use end::EndDebug;
 pub use end::EndPartialEq;
+pub use fetched::Fetched;
+pub use fetched::FetchedDebug;
+pub use fetched::FetchedPartialEq;
+pub use link::Link;
 pub use refusal::LineToLink;
 pub use refusal::LinkRefusal;
 pub use refusal::LinkRefusalDebug;

@@ -1,16 +1,21 @@
 ghost use mathlib.Core.Path.{_≡_};
 ghost use Rattle.link.specs.Refusals.{number-of, word-of};
+ghost use Rattle.link.specs.declared.refusal.LinkRefusal.the-variants.{Line as By-line, Station as By-station};
 use super::LinkRefusal;
 use lines::LineRefusal;
 use stations::StationRefusal;
 
 pub impl From<LineRefusal> for LinkRefusal as LineToLink {
+    ghost converts = { λ e r. r ≡ By-line e };
+
     fn from(refusal: LineRefusal) -> LinkRefusal {
         LinkRefusal::Line(refusal)
     }
 }
 
 pub impl From<StationRefusal> for LinkRefusal as StationToLink {
+    ghost converts = { λ e r. r ≡ By-station e };
+
     fn from(refusal: StationRefusal) -> LinkRefusal {
         LinkRefusal::Station(refusal)
     }
