@@ -1,7 +1,8 @@
 ghost use mathlib.Core.Path.{_≡_};
 ghost use Rattle.link.specs.Calls.{asked, after, opens-answer, opens-leaves, closes-answer, closes-leaves, polls-answer, polls-leaves, sends-answer, sends-leaves, takes-answer, takes-leaves, ticks-answer, ticks-leaves, fetches-answer, fetches-leaves, fetched, fetch-writes, strikes-answer, strikes-leaves};
 ghost use Rattle.link.specs.State.{check-by, check-answer, made};
-ghost use Rattle.link.specs.Views.{model};
+ghost use Rattle.link.specs.declared.end.End.the-variants.{Primary as At-primary, Secondary as At-secondary};
+ghost use Rattle.link.specs.Views.{model, with-state};
 use super::Link;
 use crate::End;
 use crate::Fetched;
@@ -40,7 +41,13 @@ impl<L: Line> Link<L> {
             Ok(_) => None,
             Err(refusal) => Some(refusal),
         };
-        Link { line, limit, fault, primary: Primary::new(), secondary: Secondary::new() }
+        Link {
+            line,
+            limit,
+            fault,
+            primary: Primary::new(),
+            secondary: Secondary::new(),
+        }
     }
 
     // A link that its check refused answers that number before all else.
@@ -84,5 +91,121 @@ impl<L: Line> Link<L> {
     {
         self.sound()?;
         Ok(self.primary.poll(&mut self.line)?)
+    }
+
+    fn send_primary(&mut self, octets: &[u8]) -> Result<Counts, LinkRefusal>
+        ensures answers { λ r. ⌜ r ≡ sends-answer ((model (L·Line .meaning) (now (self .entry))) .measures) At-primary (now (octets .entry)) ((model (L·Line .meaning) (now (self .entry))) .now) ⌝ }
+        ensures leaves { λ _. ⌜ model (L·Line .meaning) (now (self .exit)) ≡ with-state (sends-leaves ((model (L·Line .meaning) (now (self .entry))) .measures) At-primary (now (octets .entry)) ((model (L·Line .meaning) (now (self .entry))) .now)) (model (L·Line .meaning) (now (self .entry))) ⌝ }
+        ensures keeps { λ _. ⌜ L·Line .beyond (now (self .exit) .line) ≡ L·Line .beyond (now (self .entry) .line) ⌝ }
+        ensures tidy { λ _. ⌜ (L·Line .tidy (now (self .entry) .line) → L·Line .tidy (now (self .exit) .line)) ⌝ }
+    {
+        Ok(self.primary.send(octets, &mut self.line)?)
+    }
+
+    fn send_secondary(&mut self, octets: &[u8]) -> Result<Counts, LinkRefusal>
+        ensures answers { λ r. ⌜ r ≡ sends-answer ((model (L·Line .meaning) (now (self .entry))) .measures) At-secondary (now (octets .entry)) ((model (L·Line .meaning) (now (self .entry))) .now) ⌝ }
+        ensures leaves { λ _. ⌜ model (L·Line .meaning) (now (self .exit)) ≡ with-state (sends-leaves ((model (L·Line .meaning) (now (self .entry))) .measures) At-secondary (now (octets .entry)) ((model (L·Line .meaning) (now (self .entry))) .now)) (model (L·Line .meaning) (now (self .entry))) ⌝ }
+        ensures keeps { λ _. ⌜ L·Line .beyond (now (self .exit) .line) ≡ L·Line .beyond (now (self .entry) .line) ⌝ }
+        ensures tidy { λ _. ⌜ (L·Line .tidy (now (self .entry) .line) → L·Line .tidy (now (self .exit) .line)) ⌝ }
+    {
+        Ok(self.secondary.send(octets, &mut self.line)?)
+    }
+
+    // An open end: the block enters the window, and its I frame is put.
+    pub fn send(&mut self, end: End, octets: &[u8]) -> Result<Counts, LinkRefusal>
+        ensures answers { λ r. ⌜ r ≡ asked (model (L·Line .meaning) (now (self .entry))) (λ g x. sends-answer g end (now (octets .entry)) x) ⌝ }
+        ensures leaves { λ _. ⌜ model (L·Line .meaning) (now (self .exit)) ≡ after (model (L·Line .meaning) (now (self .entry))) (λ g x. sends-leaves g end (now (octets .entry)) x) ⌝ }
+        ensures keeps { λ _. ⌜ L·Line .beyond (now (self .exit) .line) ≡ L·Line .beyond (now (self .entry) .line) ⌝ }
+        ensures tidy { λ _. ⌜ (L·Line .tidy (now (self .entry) .line) → L·Line .tidy (now (self .exit) .line)) ⌝ }
+    {
+        self.sound()?;
+        match end {
+            End::Primary => self.send_primary(octets),
+            End::Secondary => self.send_secondary(octets),
+        }
+    }
+
+    // The line first; then a running timer rises by 1, and at T the primary asks again.
+    pub fn tick(&mut self) -> Result<Counts, LinkRefusal>
+        ensures answers { λ r. ⌜ r ≡ asked (model (L·Line .meaning) (now (self .entry))) (ticks-answer) ⌝ }
+        ensures leaves { λ _. ⌜ model (L·Line .meaning) (now (self .exit)) ≡ after (model (L·Line .meaning) (now (self .entry))) (ticks-leaves) ⌝ }
+        ensures keeps { λ _. ⌜ L·Line .beyond (now (self .exit) .line) ≡ L·Line .beyond (now (self .entry) .line) ⌝ }
+        ensures tidy { λ _. ⌜ (L·Line .tidy (now (self .entry) .line) → L·Line .tidy (now (self .exit) .line)) ⌝ }
+    {
+        self.sound()?;
+        self.line.tick();
+        Ok(self.primary.tick(self.limit, &mut self.line))
+    }
+
+    // The oldest waiting block of an end leaves, in any mode; it is written to the front of the place, and the octets
+    // behind it keep their content.
+    pub fn fetch(&mut self, end: End, place: &mut [u8; 64]) -> Result<Fetched, LinkRefusal>
+        ensures answers { λ r. ⌜ r ≡ asked (model (L·Line .meaning) (now (self .entry))) (λ g x. fetched (fetches-answer end x)) ⌝ }
+        ensures writes { λ _. ⌜ now (place .exit) ≡ fetch-writes (asked (model (L·Line .meaning) (now (self .entry))) (λ g x. fetches-answer end x)) (now (place .entry)) ⌝ }
+        ensures leaves { λ _. ⌜ model (L·Line .meaning) (now (self .exit)) ≡ after (model (L·Line .meaning) (now (self .entry))) (λ g x. fetches-leaves end x) ⌝ }
+        ensures keeps { λ _. ⌜ L·Line .beyond (now (self .exit) .line) ≡ L·Line .beyond (now (self .entry) .line) ⌝ }
+        ensures tidy { λ _. ⌜ (L·Line .tidy (now (self .entry) .line) → L·Line .tidy (now (self .exit) .line)) ⌝ }
+    {
+        self.sound()?;
+        let length = match end {
+            End::Primary => self.primary.fetch(place)?,
+            End::Secondary => self.secondary.fetch(place)?,
+        };
+        Ok(Fetched {
+            counts: Counts { put: 0, lost: 0 },
+            length,
+        })
+    }
+
+    // The line's strike.
+    pub fn strike(
+        &mut self,
+        way: Way,
+        place: usize,
+        start: usize,
+        mask: u16,
+    ) -> Result<Counts, LinkRefusal>
+        ensures answers { λ r. ⌜ r ≡ asked (model (L·Line .meaning) (now (self .entry))) (λ g x. strikes-answer way place start mask x) ⌝ }
+        ensures leaves { λ _. ⌜ model (L·Line .meaning) (now (self .exit)) ≡ after (model (L·Line .meaning) (now (self .entry))) (λ g x. strikes-leaves way place start mask x) ⌝ }
+        ensures keeps { λ _. ⌜ L·Line .beyond (now (self .exit) .line) ≡ L·Line .beyond (now (self .entry) .line) ⌝ }
+        ensures tidy { λ _. ⌜ (L·Line .tidy (now (self .entry) .line) → L·Line .tidy (now (self .exit) .line)) ⌝ }
+    {
+        self.sound()?;
+        self.line.strike(way, place, start, mask)?;
+        Ok(Counts { put: 0, lost: 0 })
+    }
+
+    fn take_primary(&mut self) -> Result<Taken, LinkRefusal>
+        ensures answers { λ r. ⌜ r ≡ takes-answer ((model (L·Line .meaning) (now (self .entry))) .measures) At-primary ((model (L·Line .meaning) (now (self .entry))) .now) ⌝ }
+        ensures leaves { λ _. ⌜ model (L·Line .meaning) (now (self .exit)) ≡ with-state (takes-leaves ((model (L·Line .meaning) (now (self .entry))) .measures) At-primary ((model (L·Line .meaning) (now (self .entry))) .now)) (model (L·Line .meaning) (now (self .entry))) ⌝ }
+        ensures keeps { λ _. ⌜ L·Line .beyond (now (self .exit) .line) ≡ L·Line .beyond (now (self .entry) .line) ⌝ }
+        ensures tidy { λ _. ⌜ (L·Line .tidy (now (self .entry) .line) → L·Line .tidy (now (self .exit) .line)) ⌝ }
+    {
+        let frame = self.line.take(Way::Two)?;
+        Ok(self.primary.hear(frame, &mut self.line)?)
+    }
+
+    fn take_secondary(&mut self) -> Result<Taken, LinkRefusal>
+        ensures answers { λ r. ⌜ r ≡ takes-answer ((model (L·Line .meaning) (now (self .entry))) .measures) At-secondary ((model (L·Line .meaning) (now (self .entry))) .now) ⌝ }
+        ensures leaves { λ _. ⌜ model (L·Line .meaning) (now (self .exit)) ≡ with-state (takes-leaves ((model (L·Line .meaning) (now (self .entry))) .measures) At-secondary ((model (L·Line .meaning) (now (self .entry))) .now)) (model (L·Line .meaning) (now (self .entry))) ⌝ }
+        ensures keeps { λ _. ⌜ L·Line .beyond (now (self .exit) .line) ≡ L·Line .beyond (now (self .entry) .line) ⌝ }
+        ensures tidy { λ _. ⌜ (L·Line .tidy (now (self .entry) .line) → L·Line .tidy (now (self .exit) .line)) ⌝ }
+    {
+        let frame = self.line.take(Way::One)?;
+        Ok(self.secondary.hear(frame, &mut self.line)?)
+    }
+
+    // A line's take, then that station's rule.
+    pub fn take(&mut self, end: End) -> Result<Taken, LinkRefusal>
+        ensures answers { λ r. ⌜ r ≡ asked (model (L·Line .meaning) (now (self .entry))) (λ g x. takes-answer g end x) ⌝ }
+        ensures leaves { λ _. ⌜ model (L·Line .meaning) (now (self .exit)) ≡ after (model (L·Line .meaning) (now (self .entry))) (λ g x. takes-leaves g end x) ⌝ }
+        ensures keeps { λ _. ⌜ L·Line .beyond (now (self .exit) .line) ≡ L·Line .beyond (now (self .entry) .line) ⌝ }
+        ensures tidy { λ _. ⌜ (L·Line .tidy (now (self .entry) .line) → L·Line .tidy (now (self .exit) .line)) ⌝ }
+    {
+        self.sound()?;
+        match end {
+            End::Primary => self.take_primary(),
+            End::Secondary => self.take_secondary(),
+        }
     }
 }
