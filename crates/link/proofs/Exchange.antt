@@ -18,26 +18,26 @@ use Rattle.link.specs.State.{Measures}
 use Rattle.link.proofs.Marks.{marked, marked-status, Marks, marks-any, marks-after, marks-age, no-mark, marks-put-mark, marks-older, marks-out, Unmarking, marks-tail, marks-again}
 
 -- the ages of a request and of an answer, where the timer stands at n
-abbrev pub Ask : ℕ → ℕ → Type 0
-Ask n a = a ≡ n
+abbrev pub Request-age : ℕ → ℕ → Type 0
+Request-age n a = a ≡ n
 
-abbrev pub Answer : ℕ → ℕ → ℕ → Type 0
-Answer d n a = (a ≤ n) × (n ≤ a + d)
+abbrev pub Answer-age : ℕ → ℕ → ℕ → Type 0
+Answer-age d n a = (a ≤ n) × (n ≤ a + d)
 
-abbrev pub Never : ℕ → Type 0
-Never a = ⊥
+abbrev pub No-age : ℕ → Type 0
+No-age a = ⊥
 
 -- way 1 holds the request, or way 2 the answer, or neither does
 pub data Exchange (g : Measures) : Timer → List Entry → List Entry → Type 0 where
-  idle : {one two : List Entry} → Marks (g .d) Never false one → Marks (g .d) Never false two → Exchange g None one two
+  idle : {one two : List Entry} → Marks (g .d) No-age false one → Marks (g .d) No-age false two → Exchange g None one two
   asked : {n : ℕ} {one two : List Entry} →
-      Marks (g .d) (Ask n) true one → Marks (g .d) Never false two → Exchange g (Some n) one two
+      Marks (g .d) (Request-age n) true one → Marks (g .d) No-age false two → Exchange g (Some n) one two
   answered : {n : ℕ} {one two : List Entry} →
-      Marks (g .d) Never false one → Marks (g .d) (Answer (g .d) n) true two → Exchange g (Some n) one two
+      Marks (g .d) No-age false one → Marks (g .d) (Answer-age (g .d) n) true two → Exchange g (Some n) one two
 
 -- neither a request nor an answer
 abbrev pub Quiet : Measures → List Entry → List Entry → Type 0
-Quiet g one two = Marks (g .d) Never false one × Marks (g .d) Never false two
+Quiet g one two = Marks (g .d) No-age false one × Marks (g .d) No-age false two
 
 module _ {g : Measures} where
   pub quiet : {one two : List Entry} → Exchange g None one two → Quiet g one two
@@ -49,20 +49,20 @@ module _ {g : Measures} where
   -- a request goes out
   pub exchange-ask : {one two : List Entry} (room : Bool) (f : Parts) →
       marked f ≡ true → Quiet g one two → Exchange g (Some 0) (put-by room one f) two
-  exchange-ask room f m q = asked (marks-put-mark room f m refl (marks-any (Ask 0) false (q .0))) (q .1)
+  exchange-ask room f m q = asked (marks-put-mark room f m refl (marks-any (Request-age 0) false (q .0))) (q .1)
 
   -- a way changes, and no mark comes
   pub exchange-one : {t : Timer} {one two es : List Entry} →
       Unmarking (g .d) one es → Exchange g t one two → Exchange g t es two
-  exchange-one c (idle h j) = idle (c Never false h) j
-  exchange-one c (asked {n = n} h j) = asked (c (Ask n) true h) j
-  exchange-one c (answered h j) = answered (c Never false h) j
+  exchange-one c (idle h j) = idle (c No-age false h) j
+  exchange-one c (asked {n = n} h j) = asked (c (Request-age n) true h) j
+  exchange-one c (answered h j) = answered (c No-age false h) j
 
   pub exchange-two : {t : Timer} {one two es : List Entry} →
       Unmarking (g .d) two es → Exchange g t one two → Exchange g t one es
-  exchange-two c (idle h j) = idle h (c Never false j)
-  exchange-two c (asked h j) = asked h (c Never false j)
-  exchange-two c (answered {n = n} h j) = answered h (c (Answer (g .d) n) true j)
+  exchange-two c (idle h j) = idle h (c No-age false j)
+  exchange-two c (asked h j) = asked h (c No-age false j)
+  exchange-two c (answered {n = n} h j) = answered h (c (Answer-age (g .d) n) true j)
 
   -- the secondary takes a request, and the answer goes out
   pub exchange-answer : (room : Bool) {a : ℕ} {f : Parts} (r : Parts) {t : Timer} {one two : List Entry} →
@@ -70,13 +70,13 @@ module _ {g : Measures} where
   exchange-answer room r m e (idle h j) = absurd (no-mark m h)
   exchange-answer room r m e (asked h j) =
       let x = marks-age true m h in
-      answered (marks-any Never false (marks-after true m h))
-        (marks-put-mark room r e (omega arith, omega arith) (marks-any (Answer (g .d) _) false j))
+      answered (marks-any No-age false (marks-after true m h))
+        (marks-put-mark room r e (omega arith, omega arith) (marks-any (Answer-age (g .d) _) false j))
   exchange-answer room r m e (answered h j) = absurd (no-mark m h)
 
   -- where a request is at the front, no answer is on its way
   pub exchange-free : {a : ℕ} {f : Parts} {t : Timer} {one two : List Entry} →
-      marked f ≡ true → Exchange g t (frame a f ∷ one) two → Marks (g .d) Never false two
+      marked f ≡ true → Exchange g t (frame a f ∷ one) two → Marks (g .d) No-age false two
   exchange-free m (idle h j) = j
   exchange-free m (asked h j) = j
   exchange-free m (answered h j) = absurd (no-mark m h)
@@ -86,26 +86,26 @@ module _ {g : Measures} where
       marked f ≡ true → Exchange g t one (frame a f ∷ two) → Quiet g one two
   exchange-done m (idle h j) = absurd (no-mark m j)
   exchange-done m (asked h j) = absurd (no-mark m j)
-  exchange-done m (answered h j) = (h, marks-any Never false (marks-after true m j))
+  exchange-done m (answered h j) = (h, marks-any No-age false (marks-after true m j))
 
   -- a tick with the timer off, with it running on, and with it out
   pub exchange-tick-off : {one two : List Entry} →
       Exchange g None one two → Exchange g None (older (g .d) one) (older (g .d) two)
-  exchange-tick-off (idle h j) = idle (marks-older Never (λ a n l. n) h) (marks-older Never (λ a n l. n) j)
+  exchange-tick-off (idle h j) = idle (marks-older No-age (λ a n l. n) h) (marks-older No-age (λ a n l. n) j)
 
   pub exchange-tick : {n : ℕ} {one two : List Entry} →
       Exchange g (Some n) one two → Exchange g (Some (n + 1)) (older (g .d) one) (older (g .d) two)
   exchange-tick {n} (asked h j) =
-      asked (marks-older (Ask (n + 1)) (λ a e i. omega arith) h) (marks-older Never (λ a n l. n) j)
+      asked (marks-older (Request-age (n + 1)) (λ a e i. omega arith) h) (marks-older No-age (λ a n l. n) j)
   exchange-tick {n} (answered h j) =
-      answered (marks-older Never (λ a n l. n) h) (marks-older (Answer (g .d) (n + 1)) (λ a e i. (omega arith, omega arith)) j)
+      answered (marks-older No-age (λ a n l. n) h) (marks-older (Answer-age (g .d) (n + 1)) (λ a e i. (omega arith, omega arith)) j)
 
   pub exchange-out : {n : ℕ} {one two : List Entry} →
       2 * g .d + 1 ≤ g .t → g .t ≤ n + 1 → Exchange g (Some n) one two → Quiet g (older (g .d) one) (older (g .d) two)
   exchange-out {n} large out (asked h j) =
-      (marks-out Never true (λ a q i. omega arith) h, marks-older Never (λ a n l. n) j)
+      (marks-out No-age true (λ a q i. omega arith) h, marks-older No-age (λ a n l. n) j)
   exchange-out {n} large out (answered h j) =
-      (marks-older Never (λ a n l. n) h, marks-out Never true (λ a q i. omega arith) j)
+      (marks-older No-age (λ a n l. n) h, marks-out No-age true (λ a q i. omega arith) j)
 
   -- ---- RR and RNR: refused or not, marked or not
 
