@@ -5,3 +5,4 @@ pub mod Questions
 pub mod Calls
 pub mod History
 pub mod Promise
+pub mod Facts
