@@ -57,7 +57,7 @@ module _ {c : Bool} {x : Station} {xt : Tally} {y : Station} {yt : Tally} {xy yx
         right = h .right;
         there =
             flow-put-info (ltb (length xy) k) (x .vs) (x .vr) 0 (length (xt .accepted)) z (sym (h .left .vr-is))
-              (carries-sent z (h .left) free) (flow-accept z (h .there));
+            (carries-sent z (h .left) free) (flow-accept z (h .there));
         back = h .back;
         got-there = h .got-there ∙ sym (take-append-le (length (yt .taken)) (xt .accepted) (z ∷ []) (flow-most (h .there)));
         got-back = h .got-back;
@@ -97,7 +97,7 @@ module _ {c : Bool} {x : Station} {xt : Tally} {y : Station} {yt : Tally} {xy yx
   pub status-duplex : (k : ℕ) → Duplex c x xt y yt xy yx → Duplex c x xt y yt (put k xy (status x)) yx
   status-duplex k h =
       with-there h
-        (flow-put-status (ltb (length xy) k) (eqb (length (x .waiting)) 7) 0 (x .vr) 1 [] (sym (h .left .vr-is)) (h .there))
+      (flow-put-status (ltb (length xy) k) (eqb (length (x .waiting)) 7) 0 (x .vr) 1 [] (sym (h .left .vr-is)) (h .there))
 
   again-duplex : (k : ℕ) → Duplex c x xt y yt xy yx → Duplex c x xt y yt (again k x xy) yx
   again-duplex k h = with-there h (go (x .busy))
@@ -106,7 +106,7 @@ module _ {c : Bool} {x : Station} {xt : Tally} {y : Station} {yt : Tally} {xy yx
       go true = h .there
       go false =
           flow-again k x (xt .acknowledged) (x .va) (x .window) (sym (h .left .vr-is)) (sym (h .left .va-is))
-            (h .left .room) (h .left .window-is) (h .there)
+          (h .left .room) (h .left .window-is) (h .there)
 
   -- a DISC goes out on the way to x
   pub disc-duplex : (room : Bool) (ns nr b : ℕ) (z : Block) {d : ℕ} {P : ℕ → Type 0} →
@@ -160,16 +160,16 @@ module _ {c : Bool} {x : Station} {xt : Tally} {y : Station} {yt : Tally} {xy es
       let top : v ≤ length (xt .accepted) = omega (arith, flow-low rest, flow-most (h .there)) in
       let P : Bool → Type 0 = λ w. Duplex c (heard-s w x busy nr .station) (told z (heard-s w x busy nr) xt) y yt xy es in
       let r : P true =
-        record {
-          left = sound-far (h .left) v nr (t .number) (t .low) top busy;
-          right = h .right;
-          there = h .there;
-          back =
-              flow-less (length (xt .taken)) (xt .acknowledged + passed x nr) (omega arith)
-                (omega (arith, reaches (h .left) v nr (t .number) (t .low) top)) rest;
-          got-there = h .got-there;
-          got-back = h .got-back;
-        } in
+      record {
+        left = sound-far (h .left) v nr (t .number) (t .low) top busy;
+        right = h .right;
+        there = h .there;
+        back =
+            flow-less (length (xt .taken)) (xt .acknowledged + passed x nr) (omega arith)
+            (omega (arith, reaches (h .left) v nr (t .number) (t .low) top)) rest;
+        got-there = h .got-there;
+        got-back = h .got-back;
+      } in
       subst P (sym (told-allowed t rest h)) r
 
   -- an I frame
@@ -179,7 +179,7 @@ module _ {c : Bool} {x : Station} {xt : Tally} {y : Station} {yt : Tally} {xy es
       Duplex c (hear-i x ns nr z .station) (told z (hear-i x ns nr z) xt) y yt xy es
   info-heard {ns} {nr} {n} {v} {z} k t rest h =
       let P : Bool → Type 0 =
-        λ w. Duplex c (heard-i w (wanted x ns) x nr z .station) (told z (heard-i w (wanted x ns) x nr z) xt) y yt xy es in
+      λ w. Duplex c (heard-i w (wanted x ns) x nr z .station) (told z (heard-i w (wanted x ns) x nr z) xt) y yt xy es in
       subst P (sym (told-allowed t rest h)) (go (wanted x ns) refl)
     where
       top : v ≤ length (xt .accepted)
@@ -202,10 +202,10 @@ module _ {c : Bool} {x : Station} {xt : Tally} {y : Station} {yt : Tally} {xy es
           let r : ℕ = length (xt .taken) in
           let at-front : ns ≡ x .vr = eqb-true ns (x .vr) (and-parts _ _ w .0) in
           let is : n ≡ r =
-            same-count n r (k .number ∙ at-front ∙ h .left .vr-is) (k .near) (omega (arith, h .right .room, flow-low (h .there), k .accepted)) in
+          same-count n r (k .number ∙ at-front ∙ h .left .vr-is) (k .near) (omega (arith, h .right .room, flow-low (h .there), k .accepted)) in
           let grown = length-push (xt .taken) z in
           let more : take (r + 1) (yt .accepted) ≡ take r (yt .accepted) ++ (getD (yt .accepted) r [] ∷ []) =
-            take-more (yt .accepted) r [] (omega (arith, k .accepted)) in
+          take-more (yt .accepted) r [] (omega (arith, k .accepted)) in
           record {
             left = sound-take-in (h .left) v nr (t .number) (t .low) top z;
             right = h .right;

@@ -44,4 +44,4 @@ keep-run l x y large sound now h [] = subst (λ w. Good (l .measures) w y) (sym 
 keep-run l x y large sound now h (c ∷ cs) =
     let g : Measures = l .measures in
     keep-run (step l c) (leaves c g x) (notes c g x y) large sound
-      (ap (λ o. held-by o (l .now) (leaves c g (l .now))) sound ∙ ap (leaves c g) now) (keep-call g large c x y h) cs
+    (ap (λ o. held-by o (l .now) (leaves c g (l .now))) sound ∙ ap (leaves c g) now) (keep-call g large c x y h) cs

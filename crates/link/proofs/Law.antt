@@ -81,8 +81,8 @@ module _ (ls : Lists) (t : ℕ) (sound : made ls t .fault ≡ None) where
   start : Good (made ls t .measures) (made ls t .now) (account no-tally no-tally)
   start =
       subst (λ one. Good (made ls t .measures) (state one (ls .two) Closed None false fresh fresh) (account no-tally no-tally)) one-empty
-        (subst (λ two. Good (made ls t .measures) (state [] two Closed None false fresh fresh) (account no-tally no-tally)) two-empty
-          (shut, (record { whole = refl }, record { whole = refl })))
+      (subst (λ two. Good (made ls t .measures) (state [] two Closed None false fresh fresh) (account no-tally no-tally)) two-empty
+      (shut, (record { whole = refl }, record { whole = refl })))
 
   kept : (calls : List Call) → Kept (made ls t) calls
   kept calls =

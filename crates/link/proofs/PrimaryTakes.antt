@@ -50,14 +50,15 @@ module _ {g : Measures} where
       Exchange g t one (frame a (parts (status-by busy) ns nr b z) ∷ es) → Duplex false p pt s st one es →
       Whole p pt × Whole s st →
       Good g
-        (state (resend-by (hear-s p busy nr .refused) (eqb b 1) t (g .k) (hear-s p busy nr .station) one) es Open
-          (timer-by (hear-s p busy nr .refused) (eqb b 1) t) true (hear-s p busy nr .station) s)
-        (account (told z (hear-s p busy nr) pt) st)
+      (state (resend-by (hear-s p busy nr .refused) (eqb b 1) t (g .k) (hear-s p busy nr .station) one) es Open
+      (timer-by (hear-s p busy nr .refused) (eqb b 1) t) true (hear-s p busy nr .station) s)
+      (account (told z (hear-s p busy nr) pt) st)
   status-good {t} {p} {pt = pt} {ns = ns} {nr = nr} {b = b} {z = z} busy l rest i d q =
-      let h = hear-s p busy nr in
-      (flowing (exchange-resend (h .refused) (eqb b 1) (g .k) (h .station) t (marked-status busy ns nr b z) i)
-        (resend-duplex (h .refused) (eqb b 1) t (g .k) (status-heard busy z l rest d)),
-      (whole-status (allowed p nr) p pt busy nr z (q .0), q .1))
+      let h = hear-s p busy nr in (
+        flowing (exchange-resend (h .refused) (eqb b 1) (g .k) (h .station) t (marked-status busy ns nr b z) i)
+            (resend-duplex (h .refused) (eqb b 1) t (g .k) (status-heard busy z l rest d)),
+        (whole-status (allowed p nr) p pt busy nr z (q .0), q .1),
+      )
 
   take-flowing : {t : Timer} {one two : List Entry} {p s : Station} {pt st : Tally} →
       Flow (st .accepted) (length (st .taken)) (length (pt .taken)) (pt .acknowledged) two →
@@ -67,15 +68,16 @@ module _ {g : Measures} where
   take-flowing (skip f) i d q = took tt (flowing (exchange-two marks-tail i) (tail-back d), q)
   take-flowing {p = p} {pt = pt} (info {ns = ns} {nr = nr} {x = z} k l f) i d q =
       let h = tail-back d in
-      heard _ _ (hear-i p ns nr z) refl refl (info-unrefused p ns nr z (told-allowed l f h))
-        (flowing (exchange-two marks-tail i) (info-heard k l f h),
-        (whole-info (allowed p nr) (wanted p ns) p pt nr z (q .0), q .1))
+      heard _ _ (hear-i p ns nr z) refl refl (info-unrefused p ns nr z (told-allowed l f h)) (
+        flowing (exchange-two marks-tail i) (info-heard k l f h),
+        (whole-info (allowed p nr) (wanted p ns) p pt nr z (q .0), q .1),
+      )
   take-flowing {p = p} (status {nr = nr} true l f) i d q =
       heard _ _ (hear-s p true nr) refl refl (status-unrefused p true nr (told-allowed l f (tail-back d)))
-        (status-good true l f i (tail-back d) q)
+      (status-good true l f i (tail-back d) q)
   take-flowing {p = p} (status {nr = nr} false l f) i d q =
       heard _ _ (hear-s p false nr) refl refl (status-unrefused p false nr (told-allowed l f (tail-back d)))
-        (status-good false l f i (tail-back d) q)
+      (status-good false l f i (tail-back d) q)
 
   -- any frame but the UA is passed over
   take-rising : {n : ℕ} {one two : List Entry} {p s : Station} {pt st : Tally} →
@@ -100,7 +102,7 @@ module _ {g : Measures} where
       Good g (state one es Closing (Some n) true p s) (account (acknowledge 0 pt) st)
   passed {n} {one} {es} {p = p} {s = s} {pt = pt} {st = st} i d q =
       subst (λ y. Good g (state one es Closing (Some n) true p s) (account y st)) (sym (acknowledge-none pt))
-        (ending (exchange-two marks-tail i) (tail-there d), q)
+      (ending (exchange-two marks-tail i) (tail-there d), q)
 
   take-ending : {n : ℕ} {one two : List Entry} {p s : Station} {pt st : Tally} →
       Flow (st .accepted) (length (st .taken)) (length (pt .taken)) (pt .acknowledged) two →

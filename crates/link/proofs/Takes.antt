@@ -57,7 +57,7 @@ heard {g} {e} {x} {y} f c h front answer ok good =
       unrefused = subst Unrefused (sym is) tt;
       after =
           subst (λ o. Good g (takes-leaves g e x) (note-take o (takes-answer g e x) e (takes-leaves g e x) y)) (sym front)
-            (subst (λ a. Good g (takes-leaves g e x) (note-take (Some f) a e (takes-leaves g e x) y)) (sym is) good);
+          (subst (λ a. Good g (takes-leaves g e x) (note-take (Some f) a e (takes-leaves g e x) y)) (sym is) good);
     }
 
 -- a frame that acknowledges nothing leaves the tally

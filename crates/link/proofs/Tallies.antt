@@ -79,7 +79,7 @@ module _ {x : Station} {y : Tally} (h : Sound x y) (v nr : ℕ) (e : v % 8 ≡ n
   sound-acknowledge =
       record {
         vs-is = h .vs-is;
-        va-is = sym e ∙ ap (λ n. n % 8) (sym reaches);
+        va-is = omega (arith, e, reaches);
         vr-is = h .vr-is;
         window-is = ap (drop (passed x nr)) (h .window-is) ∙ drop-drop (passed x nr) (y .acknowledged) (y .accepted);
         room = omega (arith, h .room, reaches);

@@ -4,5 +4,6 @@ pub mod Views
 pub mod Questions
 pub mod Calls
 pub mod History
+pub mod Plays
 pub mod Promise
 pub mod Facts

@@ -10,7 +10,8 @@ use Rattle.stations.specs.declared.refusal.StationRefusal.the-variants.{Numberi
 use Rattle.stations.specs.Station.{Station}
 use Rattle.link.specs.declared.end.End.{End}
 use Rattle.link.specs.declared.refusal.LinkRefusal.the-variants.{Station as By-station}
-use Rattle.link.specs.State.{State, state, Model}
+use Rattle.lines.specs.Entries.{Lists}
+use Rattle.link.specs.State.{State, state, Model, made}
 use Rattle.link.specs.Calls.{takes-answer}
 use Rattle.link.specs.History.{Call, run, Tally, Account, account, no-tally, account-of}
 
@@ -43,3 +44,10 @@ pub record Kept (l : Model) (calls : List Call) : Type 0 where
 -- the law: whatever calls a sound link then meets
 abbrev pub Law : Model → Type 0
 Law l = l .fault ≡ None → (calls : List Call) → Kept l calls
+
+-- the same for a link that has met some calls before: whatever its making and its history were, it stands where the
+-- longer history leads, and the promise holds of that
+abbrev pub Lasting : Model → List Call → Model → Type 0
+Lasting before calls now =
+    (lists : Lists) (t : ℕ) (history : List Call) → made lists t .fault ≡ None → before ≡ run (made lists t) history
+    → (now ≡ run (made lists t) (history ++ calls)) × Kept (made lists t) (history ++ calls)

@@ -1,9 +1,11 @@
 // The link between two modules: two stations over one line, and what it promises over every history.
+mod call;
 mod end;
 mod fetched;
 mod link;
 mod refusal;
 
+pub use call::Call;
 pub use end::End;
 pub use end::EndDebug;
 pub use end::EndPartialEq;

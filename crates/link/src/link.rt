@@ -5,6 +5,7 @@ use stations::Primary;
 use stations::Secondary;
 
 mod calls;
+mod play;
 mod questions;
 
 #[derive(Drop)]

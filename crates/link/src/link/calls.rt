@@ -2,6 +2,7 @@ ghost use mathlib.Core.Path.{_≡_};
 ghost use Rattle.link.specs.Calls.{asked, after, opens-answer, opens-leaves, closes-answer, closes-leaves, polls-answer, polls-leaves, sends-answer, sends-leaves, takes-answer, takes-leaves, ticks-answer, ticks-leaves, fetches-answer, fetches-leaves, fetched, fetch-writes, strikes-answer, strikes-leaves};
 ghost use Rattle.link.specs.State.{check-by, check-answer, made};
 ghost use Rattle.link.specs.declared.end.End.the-variants.{Primary as At-primary, Secondary as At-secondary};
+ghost use Rattle.link.specs.Promise.{Law};
 ghost use Rattle.link.specs.Views.{model, with-state};
 use super::Link;
 use crate::End;
@@ -31,9 +32,11 @@ impl<L: Line> Link<L> {
         Ok(())
     }
 
-    // A new link: both ends closed, reset, with nothing waiting and no timer.
+    // A new link: both ends closed, reset, with nothing waiting and no timer. Where its check says yes, it keeps the
+    // promise over every list of calls that it then meets.
     pub fn make(line: L, limit: usize) -> Link<L>
         ensures makes { λ r. ⌜ model (L·Line .meaning) r ≡ made (L·Line .meaning line) limit ⌝ }
+        ensures law { λ r. ⌜ Law (model (L·Line .meaning) r) ⌝ }
         ensures keeps { λ r. ⌜ L·Line .beyond (r .line) ≡ L·Line .beyond line ⌝ }
         ensures tidy { λ r. ⌜ (L·Line .tidy line → L·Line .tidy (r .line)) ⌝ }
     {
