@@ -1,0 +1,4 @@
+pub mod Fronts
+pub mod Digits
+pub mod Spelling
+pub mod Texts

@@ -1,0 +1,3 @@
+pub mod Words
+pub mod Decimals
+pub mod Hex
