@@ -37,9 +37,10 @@ spelled [] = Some []
 spelled (h ∷ []) = None
 spelled (h ∷ l ∷ rest) = before (octet-answer h l) (spelled rest)
 
--- the octets that a word stands for
+-- the octets that a word stands for; the empty word, which stands where a word is missing, is refused
 abbrev pub octets-answer : List ℕ → Option (List ℕ)
-octets-answer word = cond (sameBytes word (codes "-")) (Some []) (spelled word)
+octets-answer [] = None
+octets-answer (o ∷ os) = cond (sameBytes (o ∷ os) (codes "-")) (Some []) (spelled (o ∷ os))
 
 -- the digit of a value below 16, in lower case
 abbrev pub digit-of : ℕ → ℕ

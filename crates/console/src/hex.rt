@@ -54,6 +54,7 @@ pub fn octets(heap: Global, word: &[u8]) -> Result<Option<Vec<u8>>, AllocError>
     ensures { λ r. ⌜ made r (λ o. mapped vec-items o ≡ octets-answer (now (word .entry))) ⌝ }
 {
     match word {
+        [] => Ok(None),
         b"-" => Ok(Some(Vec::new(heap))),
         _ => spelled(heap, word),
     }

@@ -1,6 +1,7 @@
 // The words of a line: runs of octets between ASCII white space.
 ghost use mathlib.Core.Path.{_≡_};
 ghost use mathlib.Core.Bool.{Bool, not};
+ghost use Rattle.std.specs.shelf.Text.{sameBytes};
 ghost use Rattle.console.specs.Words.{white, front, first-word, after-word};
 
 // Tab, line feed, VT, FF, CR or the space.
@@ -39,4 +40,11 @@ pub fn split_word(text: &[u8]) -> (&[u8], &[u8])
 {
     let (_, trimmed) = text.split_at(count_white(text));
     trimmed.split_at(count_solid(trimmed))
+}
+
+// Whether a word is this text.
+pub fn is(word: &[u8], text: &str) -> bool
+    ensures { λ r. ⌜ r ≡ sameBytes (now (word .entry)) (now (text .entry)) ⌝ }
+{
+    word == text.as_bytes()
 }
