@@ -170,7 +170,14 @@ mod tests {
 
     #[test]
     fn no_reply(rt: LibcRuntime) -> Result<(), Fail> {
-        let lines: [&[u8]; 6] = [b"", b"\n", b" \t\x0b\x0c\r\n", b"#", b"  # read 3", b"#read\xff\n"];
+        let lines: [&[u8]; 6] = [
+            b"",
+            b"\n",
+            b" \t\x0b\x0c\r\n",
+            b"#",
+            b"  # read 3",
+            b"#read\xff\n",
+        ];
         for line in lines {
             expect(&rt, line, ".")?;
         }
@@ -186,7 +193,8 @@ mod tests {
 
     #[test]
     fn errors(rt: LibcRuntime) -> Result<(), Fail> {
-        let octets = "!error: octets must be an even number of hexadecimal digits, or '-' for none\n";
+        let octets =
+            "!error: octets must be an even number of hexadecimal digits, or '-' for none\n";
         let lines: [(&[u8], &str); 16] = [
             (b"reads 1 -", "!error: no such command\n"),
             (b"READ 1 -", "!error: no such command\n"),
@@ -199,11 +207,26 @@ mod tests {
             (b"read 1 --", octets),
             (b"read 1 0x00", octets),
             (b"read 1 - -", "!error: too many words\n"),
-            (b"write 1 i 0 0 0 -", "!error: the kind must be I, RR, RNR, SARM, DISC, UA or DM\n"),
-            (b"write 1 I +1 0 0 -", "!error: N(S) must be a decimal number from 0 to 255\n"),
-            (b"write 1 I 0 256 0 -", "!error: N(R) must be a decimal number from 0 to 255\n"),
-            (b"write 1 I 0 255 1a -", "!error: B must be a decimal number from 0 to 255\n"),
-            (b"write 1 I 0 0 0 - # no comment", "!error: too many words\n"),
+            (
+                b"write 1 i 0 0 0 -",
+                "!error: the kind must be I, RR, RNR, SARM, DISC, UA or DM\n",
+            ),
+            (
+                b"write 1 I +1 0 0 -",
+                "!error: N(S) must be a decimal number from 0 to 255\n",
+            ),
+            (
+                b"write 1 I 0 256 0 -",
+                "!error: N(R) must be a decimal number from 0 to 255\n",
+            ),
+            (
+                b"write 1 I 0 255 1a -",
+                "!error: B must be a decimal number from 0 to 255\n",
+            ),
+            (
+                b"write 1 I 0 0 0 - # no comment",
+                "!error: too many words\n",
+            ),
         ];
         for (line, reply) in lines {
             expect(&rt, line, reply)?;
