@@ -1,7 +1,7 @@
 -- Hexadecimal digits are taken two at a time.
 use mathlib.Core.Path.{_≡_, refl, sym, ap, _∙_}
-use mathlib.Core.List.{List, [], _∷_, _++_, append-assoc, append-nil}
-use Prim.Native.Nat.{ℕ, _-_, _<_, _≤_}
+use mathlib.Core.List.{List, [], _∷_, _++_, append-assoc}
+use Prim.Native.Nat.{ℕ, _-_, _≤_}
 use native.Mathlib.Omega.{arith}
 use lib.ListN.{length, getD, take, drop}
 use lib.Seq.{take-all}
@@ -17,13 +17,6 @@ after xs (Some ys) = Some (xs ++ ys)
 -- the octets so far, and those that the rest spells, are those that all digits spell
 abbrev pub Sofar : List ℕ → List ℕ → List ℕ → Type 0
 Sofar ds xs rest = after xs (spelled rest) ≡ spelled ds
-
-after-nil : (o : Option (List ℕ)) → after [] o ≡ o
-after-nil None = refl
-after-nil (Some ys) = refl
-
-pub at-first : (ds : List ℕ) → Sofar ds [] ds
-at-first ds = after-nil (spelled ds)
 
 after-before : (xs : List ℕ) (o : ℕ) (r : Option (List ℕ)) → after (xs ++ o ∷ []) r ≡ after xs (before (Some o) r)
 after-before xs o None = refl
@@ -46,14 +39,3 @@ one-more ds xs ys rest o h e more s =
     ∙ ap (λ t. after xs (before t (spelled tail))) e
     ∙ sym (ap (λ l. after xs (spelled l)) (two-first rest h))
     ∙ s
-
--- no digit is left
-pub ended : (ds xs rest : List ℕ) → length rest ≡ 0 → Sofar ds xs rest → spelled ds ≡ Some xs
-ended ds xs [] z s = sym s ∙ ap Some (append-nil xs)
-ended ds xs (h ∷ rest) z s = absurd (omega arith)
-
--- one digit is left
-pub odd : (ds xs rest : List ℕ) → 0 < length rest → length rest < 2 → Sofar ds xs rest → spelled ds ≡ None
-odd ds xs [] some few s = absurd (omega arith)
-odd ds xs (h ∷ []) some few s = sym s
-odd ds xs (h ∷ l ∷ rest) some few s = absurd (omega arith)

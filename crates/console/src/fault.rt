@@ -1,6 +1,5 @@
 // What is wrong with a line that cannot be understood, or that memory for it is not to be had.
 use std::alloc::AllocError;
-use std::alloc::Refused;
 
 #[derive(Clone, Copy, PartialEq, Eq, Debug)]
 pub enum Fault {
@@ -34,12 +33,6 @@ impl Fault {
 
 pub impl From<AllocError> for Fault as FaultFromAlloc {
     fn from(_error: AllocError) -> Fault {
-        Fault::Memory
-    }
-}
-
-pub impl<T: Drop> From<Refused<T>> for Fault as FaultFromRefused {
-    fn from(_refused: Refused<T>) -> Fault {
         Fault::Memory
     }
 }
