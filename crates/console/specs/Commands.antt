@@ -1,6 +1,6 @@
 -- What a line asks for: its words, one after the other.
 use Prim.Native.Nat.{ℕ}
-use mathlib.Core.Bool.{Bool, cond}
+use mathlib.Core.Bool.{cond}
 use mathlib.Core.List.{List}
 use lib.Chars.{codes}
 use Rattle.std.specs.shelf.Text.{sameBytes}
