@@ -1,0 +1,5 @@
+pub mod Words
+pub mod Decimals
+pub mod Hex
+pub mod Commands
+pub mod Answers
