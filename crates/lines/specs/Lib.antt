@@ -1,3 +1,4 @@
 pub mod Refusals
 pub mod Entries
 pub mod Line
+pub mod Ring
