@@ -1,1 +1,3 @@
-pub mod Rings
+pub mod Lanes
+pub mod Places
+pub mod Runs

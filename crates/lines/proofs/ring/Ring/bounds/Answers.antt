@@ -1,9 +1,9 @@
-use mathlib.Core.Path.{_≡_, refl, sym, ap, _∙_}
+use mathlib.Core.Path.{_≡_, sym, ap, _∙_}
 use Prim.Native.Nat.{min, _≤_}
 use native.Mathlib.Omega.{arith}
 use lib.ListN.{length, take, drop}
 use Rattle.lines.specs.Ring.{lane}
-use Rattle.lines.proofs.Rings.{lane-length, lane-kept, lane-past, rest-within, take-within, drop-within}
+use Rattle.lines.proofs.Lanes.{lane-length, lane-kept, lane-past, rest-within, take-within, drop-within}
 use Rattle.lines.proofs.ring.Ring.bounds.Needs as need
 use Rattle.lines.proofs.ring.Ring.bounds.Needs.{then-self-cap, else-self-cap}
 

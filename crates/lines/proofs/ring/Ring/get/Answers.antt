@@ -1,6 +1,6 @@
-use mathlib.Core.Path.{_≡_, sym, ap, _∙_}
+use mathlib.Core.Path.{sym, ap, _∙_}
 use Rattle.lines.specs.Entries.{at}
-use Rattle.lines.proofs.Rings.{held-got, held-none}
+use Rattle.lines.proofs.Places.{held-got, held-none}
 use Rattle.lines.proofs.ring.Ring.get.Needs as need
 
 pub returns-then-i-t : need.returns-then-i-t

@@ -1,6 +1,5 @@
-use mathlib.Core.Path.{_≡_, sym, ap, _∙_}
 use Rattle.std.specs.declared.option.Option.the-variants.{Some, None}
-use Rattle.lines.proofs.Rings.{got-or}
+use Rattle.lines.proofs.Runs.{got-or}
 use Rattle.lines.proofs.ring.Ring.get_or.Needs as need
 
 pub returns-in-Some : need.returns-in-Some

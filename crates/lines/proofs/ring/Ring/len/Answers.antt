@@ -1,6 +1,6 @@
-use mathlib.Core.Path.{_≡_, sym, ap, _∙_}
+use mathlib.Core.Path.{sym, ap, _∙_}
 use lib.ListN.{length}
-use Rattle.lines.proofs.Rings.{held-length}
+use Rattle.lines.proofs.Places.{held-length}
 use Rattle.lines.proofs.ring.Ring.len.Needs as need
 
 pub returns : need.returns

@@ -1,10 +1,10 @@
 use mathlib.Core.Path.{_≡_, refl, sym, ap, _∙_}
-use Prim.Native.Nat.{min, _≤_, _<_}
+use Prim.Native.Nat.{min, _≤_}
 use native.Mathlib.Omega.{arith}
 use lib.ListN.{length, drop}
 use Rattle.std.proofs.shelf.Lists.{drop-set-lt}
 use Rattle.std.proofs.shelf.Ways.{tells}
-use Rattle.lines.proofs.Rings.{blank-more, lane-blank}
+use Rattle.lines.proofs.Lanes.{blank-more, lane-blank}
 use Rattle.lines.proofs.ring.Ring.make.Needs as need
 use Rattle.lines.proofs.ring.Ring.make.Needs.{then-n-slots, else-n-slots}
 

@@ -1,11 +1,10 @@
-use mathlib.Core.Path.{_≡_, sym, ap, ap₂, _∙_}
-use mathlib.Core.List.{_++_}
+use mathlib.Core.Path.{sym, ap₂, _∙_}
 use native.Mathlib.Omega.{arith}
-use lib.ListN.{length, set, getD, take, drop}
+use lib.ListN.{length, set, drop}
 use Rattle.std.proofs.shelf.Lists.{getD-drop, length-drop}
 use Rattle.std.proofs.shelf.Tests.{le-leb}
 use Rattle.lines.specs.Ring.{held}
-use Rattle.lines.proofs.Rings.{copy-more, copy-all}
+use Rattle.lines.proofs.Runs.{copy-more, copy-all}
 use Rattle.lines.proofs.ring.Ring.peek.Needs as need
 
 pub loop-j-again : need.loop-j-again

@@ -1,13 +1,12 @@
-use mathlib.Core.Path.{_≡_, sym, ap, ap₂, _∙_}
-use mathlib.Core.List.{_++_}
+use mathlib.Core.Path.{sym, ap₂, _∙_}
 use native.Mathlib.Omega.{arith}
-use lib.ListN.{length, set, getD, take, drop}
-use lib.Seq.{paste, paste-zero}
+use lib.ListN.{set}
+use lib.Seq.{paste-zero}
 use Rattle.std.proofs.shelf.Edits.{paste-more}
 use Prim.Native.Nat.{_+_}
 use Rattle.std.proofs.shelf.Tests.{le-leb}
 use Rattle.lines.specs.Ring.{held}
-use Rattle.lines.proofs.Rings.{poke-all, kept-same, kept-then}
+use Rattle.lines.proofs.Runs.{poke-all, kept-same, kept-then}
 use Rattle.lines.proofs.ring.Ring.poke.Needs as need
 
 pub loop-j-holds : need.loop-j-holds

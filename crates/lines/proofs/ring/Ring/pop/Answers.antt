@@ -1,10 +1,11 @@
-use mathlib.Core.Path.{_≡_, refl, sym, ap, ap₂, _∙_}
+use mathlib.Core.Path.{refl, sym, ap, _∙_}
 use native.Mathlib.Omega.{arith}
 use lib.ListN.{length, drop}
 use Rattle.std.proofs.shelf.Lists.{drop-set-lt, nil-from-length, getD-default}
 use Rattle.std.proofs.shelf.Elements.{all-push}
 use Rattle.lines.specs.Entries.{at}
-use Rattle.lines.proofs.Rings.{Within, held-pop, free-pop, held-got, held-none, held-length, size-kept, all-same}
+use Rattle.lines.proofs.Places.{Within, held-pop, free-pop, held-got, held-none, held-length, size-kept}
+use Rattle.lines.proofs.Lanes.{all-same}
 use Rattle.lines.proofs.ring.Ring.pop.Needs as need
 
 pub returns-then-t-gt0 : need.returns-then-t-gt0

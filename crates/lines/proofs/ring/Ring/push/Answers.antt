@@ -1,12 +1,12 @@
-use mathlib.Core.Path.{_≡_, refl, sym, ap, ap₂, _∙_}
+use mathlib.Core.Path.{refl, sym, ap, _∙_}
 use mathlib.Core.List.{[], _∷_, _++_}
 use native.Mathlib.Omega.{arith}
-use lib.Dec.{ltb}
 use lib.ListN.{length}
 use Rattle.std.proofs.shelf.Lists.{drop-set-lt}
 use Rattle.std.proofs.shelf.Elements.{all-drop}
 use Rattle.std.proofs.shelf.Tests.{lt-ltb, le-ltb}
-use Rattle.lines.proofs.Rings.{Within, held-push, free-push, held-length, size-kept, all-same}
+use Rattle.lines.proofs.Places.{Within, held-push, free-push, held-length, size-kept}
+use Rattle.lines.proofs.Lanes.{all-same}
 use Rattle.lines.proofs.ring.Ring.push.Needs as need
 
 pub returns-then-t : need.returns-then-t

@@ -1,8 +1,8 @@
-use mathlib.Core.Path.{_≡_, sym, ap, _∙_}
+use mathlib.Core.Path.{sym}
 use native.Mathlib.Omega.{arith}
 use Rattle.std.proofs.shelf.Tests.{le-leb}
 use Rattle.lines.specs.Ring.{held}
-use Rattle.lines.proofs.Rings.{push-more, push-all, kept-then}
+use Rattle.lines.proofs.Runs.{push-more, push-all, kept-then}
 use Rattle.lines.proofs.ring.Ring.push_all.Needs as need
 
 pub loop-e-again : need.loop-e-again

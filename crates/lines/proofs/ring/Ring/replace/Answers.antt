@@ -1,8 +1,9 @@
-use mathlib.Core.Path.{_≡_, refl, sym, ap, _∙_}
+use mathlib.Core.Path.{refl, sym, ap, _∙_}
 use native.Mathlib.Omega.{arith}
 use lib.ListN.{length, set}
 use Rattle.std.proofs.shelf.Lists.{drop-set-lt, set-past}
-use Rattle.lines.proofs.Rings.{Within, held-put, free-put, held-length, size-kept, all-same}
+use Rattle.lines.proofs.Places.{Within, held-put, free-put, held-length, size-kept}
+use Rattle.lines.proofs.Lanes.{all-same}
 use Rattle.lines.proofs.ring.Ring.replace.Needs as need
 
 pub returns-then-i-t : need.returns-then-i-t

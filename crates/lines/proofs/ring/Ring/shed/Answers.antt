@@ -1,9 +1,10 @@
-use mathlib.Core.Path.{_≡_, refl, sym, ap, _∙_}
+use mathlib.Core.Path.{refl, sym, ap, _∙_}
 use native.Mathlib.Omega.{arith}
 use lib.ListN.{length, drop}
 use Rattle.std.proofs.shelf.Lists.{drop-drop}
 use Rattle.lines.specs.Ring.{held}
-use Rattle.lines.proofs.Rings.{kept-then, drop-within}
+use Rattle.lines.proofs.Runs.{kept-then}
+use Rattle.lines.proofs.Lanes.{drop-within}
 use Rattle.lines.proofs.ring.Ring.shed.Needs as need
 
 pub loop-i-again : need.loop-i-again
