@@ -134,4 +134,3 @@ module _ {E : Type 0} where
       (all-from-getD (λ x. x ≡ d) (take cap s) b (λ k m.
       let n : k < cap = omega (arith, length-take cap s) in
       getD-take cap s k b n ∙ h k n ∙ e))
-

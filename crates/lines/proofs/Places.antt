@@ -77,4 +77,3 @@ module _ {E : Type 0} where
 
   pub size-kept : (s : List E) (p cap k : ℕ) (e : E) → cap ≤ length s → cap ≡ k → min cap (length (set s p e)) ≡ k
   size-kept s p cap k e l q = simp length-set (omega arith)
-
