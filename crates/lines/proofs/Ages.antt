@@ -1,26 +1,17 @@
 -- A tick on one way: each entry's turn in order makes every entry older by one and lets those too old leave.
 use mathlib.Core.Path.{_≡_, refl, sym, ap, _∙_}
-use mathlib.Core.List.{List, [], _∷_, map, _++_}
+use mathlib.Core.List.{List, [], _∷_, _++_, map}
 use mathlib.Core.Bool.{Bool, cond, true, false}
 use Prim.Native.Nat.{ℕ, _+_, _<_, _≤_}
 use native.Mathlib.Omega.{arith}
 use lib.Dec.{ltb, leb}
 use lib.ListN.{length, getD, drop, take}
-use Rattle.std.proofs.shelf.Lists.{map-append, append-assoc, append-nil, drop-more, take-more, drop-all, take-all}
-use Rattle.std.proofs.shelf.Tests.{lt-ltb, le-leb, lt-leb, cond-true}
+use Rattle.std.proofs.shelf.Lists.{take-all, drop-all, append-nil, append-assoc, take-more, drop-more, map-append}
+use Rattle.std.proofs.shelf.Tests.{cond-true, lt-ltb, lt-leb, le-leb}
 use Rattle.std.specs.declared.option.Option.the-variants.{Some, None}
-use Rattle.lines.specs.Entries.{Entry, struck, frame, at}
-use Rattle.lines.specs.Line.{older, keep-by}
-use Rattle.lines.specs.Stored.{turned}
-
--- the age of an entry, and the entry at another age
-abbrev pub age : Entry → ℕ
-age (struck a) = a
-age (frame a p) = a
-
-abbrev pub aged : ℕ → Entry → Entry
-aged n (struck a) = struck n
-aged n (frame a p) = frame n p
+use Rattle.lines.specs.Entries.{Entry, at, struck, frame}
+use Rattle.lines.specs.Line.{keep-by, older}
+use Rattle.lines.specs.Stored.{age, aged, turned}
 
 keep-append : (b : Bool) (e : Entry) (xs ys : List Entry) → keep-by b e (xs ++ ys) ≡ keep-by b e xs ++ ys
 keep-append true e xs ys = refl

@@ -1,38 +1,39 @@
 -- A strike at a place that holds a frame: what it answers, and what the line then means.
-use mathlib.Core.Path.{_≡_, sym, ap, ap₂, _∙_}
+use mathlib.Core.Path.{_≡_, sym, ap, _∙_}
 use mathlib.Core.List.{List, [], _∷_}
-use mathlib.Core.Bool.{Bool, cond, true, false}
+use mathlib.Core.Bool.{cond, false}
 use Prim.Native.Nat.{ℕ, zero, suc, _+_, _<_, _≤_}
 use native.Mathlib.Omega.{arith}
 use lib.Dec.{leb}
 use lib.ListN.{set}
-use Rattle.std.proofs.shelf.Tests.{lt-leb, le-leb, ne-eqb}
 use Rattle.std.specs.Results.{isOk}
+use Rattle.std.proofs.shelf.Tests.{le-leb, ne-eqb}
 use Rattle.std.specs.declared.option.Option.the-variants.{Some}
-use Rattle.std.specs.declared.result.Result.the-variants.{Ok, Err}
+use Rattle.std.specs.declared.result.Result.the-variants.{Ok}
 use Rattle.frames.specs.declared.way.Way.{Way}
 use Rattle.frames.specs.Parts.{Parts}
-use Rattle.lines.specs.declared.refusal.LineRefusal.the-variants.{OffFrame}
-use Rattle.lines.specs.Entries.{Entry, struck, frame, Lists, on, with-way, at}
-use Rattle.lines.specs.Line.{bits, burst-by, strike-by, hit, hit-at, strike-answer, strike-leaves}
+use Rattle.lines.specs.Entries.{Entry, Lists, on, with-way, at, frame}
+use Rattle.lines.specs.Line.{bits, burst-by, strike-by, strike-answer, hit, hit-at, strike-leaves}
 
-hit-set : (es : List Entry) (place a : ℕ) (p : Parts) → at es place ≡ Some (frame a p) → set es place (struck a) ≡ hit-at place es
-hit-set [] place a p s = let z : _≡_ {A = ℕ} 0 1 = cc in absurd (omega arith)
-hit-set (e ∷ es) zero a p s = let q : frame a p ≡ e = cc in ap (λ x. hit x ∷ es) q
-hit-set (e ∷ es) (suc place) a p s = ap (λ xs. e ∷ xs) (hit-set es place a p s)
+hit-set : (es : List Entry) (place : ℕ) (e : Entry) → at es place ≡ Some e → set es place (hit e) ≡ hit-at place es
+hit-set [] place e s = let z : _≡_ {A = ℕ} 0 1 = cc in absurd (omega arith)
+hit-set (x ∷ es) zero e s = let q : e ≡ x = cc in ap (λ y. hit y ∷ es) q
+hit-set (x ∷ es) (suc place) e s = ap (λ xs. x ∷ xs) (hit-set es place e s)
 
-module _ (l : Lists) (w : Way) (place start mask a : ℕ) (p : Parts) (s : at (on w l) place ≡ Some (frame a p)) (lo : 0 < mask) where
-  answer : (b : Bool) → leb (start + 16) (bits p) ≡ b → strike-answer l w place start mask ≡ burst-by false b
-  answer b e = ap (λ o. strike-by o start mask) s ∙ ap₂ burst-by (ne-eqb mask 0 (λ z. omega arith)) e
+-- a burst on a frame that stands
+module _ (a : ℕ) (p : Parts) (start mask : ℕ) (lo : 0 < mask) where
+  pub by-burst : strike-by (Some (frame a p)) start mask ≡ burst-by false (leb (start + 16) (bits p))
+  by-burst = ap (λ m. burst-by m (leb (start + 16) (bits p))) (ne-eqb mask 0 (λ z. omega arith))
 
-  pub strike-off : bits p < start + 16 → Err OffFrame ≡ strike-answer l w place start mask
-  strike-off h = sym (answer false (lt-leb (start + 16) (bits p) h))
+  pub burst-within : start + 16 ≤ bits p → Ok tt ≡ strike-by (Some (frame a p)) start mask
+  burst-within h = sym (by-burst ∙ ap (burst-by false) (le-leb (start + 16) (bits p) h))
 
-  pub strike-on : start + 16 ≤ bits p → Ok tt ≡ strike-answer l w place start mask
-  strike-on h = sym (answer true (le-leb (start + 16) (bits p) h))
+-- a strike that was granted at the place of an entry
+module _ (l : Lists) (w : Way) (place start mask : ℕ) (e : Entry) (s : at (on w l) place ≡ Some e) (g : Ok tt ≡ strike-by (Some e) start mask) where
+  pub strike-granted : Ok tt ≡ strike-answer l w place start mask
+  strike-granted = g ∙ sym (ap (λ o. strike-by o start mask) s)
 
-  -- the entry at the place, struck with its age
-  pub strike-hits : start + 16 ≤ bits p → with-way w (set (on w l) place (struck a)) l ≡ strike-leaves l w place start mask
-  strike-hits h =
-      ap (λ es. with-way w es l) (hit-set (on w l) place a p s)
-      ∙ ap (λ r. cond (isOk r) (with-way w (hit-at place (on w l)) l) l) (strike-on h)
+  pub strike-hits : with-way w (set (on w l) place (hit e)) l ≡ strike-leaves l w place start mask
+  strike-hits =
+      ap (λ es. with-way w es l) (hit-set (on w l) place e s)
+      ∙ ap (λ r. cond (isOk r) (with-way w (hit-at place (on w l)) l) l) strike-granted

@@ -5,3 +5,7 @@ pub mod Ages
 pub mod Stores
 pub mod Hits
 pub mod Tables
+pub mod Packs
+pub mod Cuts
+pub mod OctetLines
+pub mod Puts

@@ -6,10 +6,10 @@ use Prim.Native.Nat.{ℕ, zero, suc, _≤_}
 use native.Mathlib.Omega.{arith}
 use lib.Dec.{ltb, leb}
 use lib.ListN.{length}
-use Rattle.std.proofs.shelf.Tests.{cond-true, cond-false}
+use Rattle.std.specs.Options.{mapped}
 use Rattle.std.proofs.shelf.Lists.{map-append}
 use Rattle.std.proofs.shelf.Ways.{tells}
-use Rattle.std.specs.Options.{mapped}
+use Rattle.std.proofs.shelf.Tests.{cond-true, cond-false}
 use Rattle.std.specs.declared.option.Option.the-variants.{None}
 use Rattle.std.specs.declared.result.Result.{Result}
 use Rattle.std.specs.declared.result.Result.the-variants.{Ok, Err}
@@ -17,17 +17,17 @@ use Rattle.frames.specs.declared.way.Way.{Way}
 use Rattle.frames.specs.declared.way.Way.the-variants.{One, Two}
 use Rattle.lines.specs.declared.refusal.LineRefusal.{LineRefusal}
 use Rattle.lines.specs.declared.refusal.LineRefusal.the-variants.{Measure}
-use Rattle.lines.specs.Entries.{Entry, Lists, Bounded, on, with-way, at}
-use Rattle.lines.specs.Line.{dead, take-leaves, tick-leaves, measured, made, check-answer}
+use Rattle.lines.specs.Entries.{Entry, Lists, on, with-way, at, Bounded}
+use Rattle.lines.specs.Line.{take-leaves, tick-leaves, measured, check-answer, dead, made}
 use Rattle.lines.specs.Stored.{fit, lists-by}
 
 pub fit-parts : (m n d : ℕ) → fit m n d ≡ true → (m ≡ n) × (m ≤ 64) × (1 ≤ d) × (d ≤ 1000)
 fit-parts m n d h = (grind (arith, tells), grind (arith, tells), grind (arith, tells), grind (arith, tells))
 
 -- for how many entries the store of a way has room
-abbrev pub room : Way → ℕ → Lists → ℕ
-room One n l = l .capacity
-room Two n l = n
+abbrev pub room-on : Way → ℕ → Lists → ℕ
+room-on One n l = l .capacity
+room-on Two n l = n
 
 on-same : (w : Way) (l : Lists) → with-way w (on w l) l ≡ l
 on-same One l = refl
@@ -94,12 +94,12 @@ module _ (n : ℕ) (l : Lists) where
     by-with One es = cond-true (fit (l .capacity) n (l .lifetime)) _ _ h
     by-with Two es = cond-true (fit (l .capacity) n (l .lifetime)) _ _ h
 
-    room-is : (w : Way) → room w n l ≡ l .capacity
+    room-is : (w : Way) → room-on w n l ≡ l .capacity
     room-is One = refl
     room-is Two = sym (fit-parts (l .capacity) n (l .lifetime) h .0)
 
     -- a push on the store of one way
-    pub fits : (w : Way) (t : Bool) (k : ℕ) → t ≡ ltb k (room w n l) → k ≡ length (on w l) →
+    pub fits : (w : Way) (t : Bool) (k : ℕ) → t ≡ ltb k (room-on w n l) → k ≡ length (on w l) →
         t ≡ ltb (length (on w (lists-by n l))) (lists-by n l .capacity)
     fits w t k p q = p ∙ ap₂ ltb q (room-is w) ∙ sym (ap (λ z. ltb (length (on w z)) (z .capacity)) (by-true h))
 

@@ -14,9 +14,8 @@ use Rattle.lines.specs.declared.table.TableLine.{TableLine}
 use Rattle.lines.specs.Entries.{Entry, Lists, with-way, Bounded, frame}
 use Rattle.lines.specs.Record.{entry-by, entry-of}
 use Rattle.lines.specs.Ring.{size, held}
-use Rattle.lines.specs.Stored.{lists-by}
+use Rattle.lines.specs.Stored.{lists-by, age, aged}
 use Rattle.lines.specs.Table.{table-meaning}
-use Rattle.lines.proofs.Ages.{age, aged}
 use Rattle.lines.proofs.Runs.{held-fit}
 use Rattle.lines.proofs.Stores.{by-bounded}
 

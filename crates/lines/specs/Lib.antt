@@ -5,3 +5,5 @@ pub mod Ring
 pub mod Stored
 pub mod Record
 pub mod Table
+pub mod Packed
+pub mod Octets
