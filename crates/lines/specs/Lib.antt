@@ -1,3 +1,9 @@
 pub mod Refusals
 pub mod Entries
 pub mod Line
+pub mod Ring
+pub mod Stored
+pub mod Record
+pub mod Table
+pub mod Packed
+pub mod Octets

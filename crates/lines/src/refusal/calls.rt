@@ -1,9 +1,12 @@
 ghost use mathlib.Core.Path.{_≡_};
 ghost use Rattle.lines.specs.Refusals.{number-of, word-of};
+ghost use Rattle.lines.specs.declared.refusal.LineRefusal.the-variants.{Frame};
 use super::LineRefusal;
 use frames::FrameRefusal;
 
 pub impl From<FrameRefusal> for LineRefusal as FrameToLine {
+    ghost converts = { λ e r. r ≡ Frame e };
+
     fn from(refusal: FrameRefusal) -> LineRefusal {
         LineRefusal::Frame(refusal)
     }
