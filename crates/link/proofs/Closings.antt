@@ -46,7 +46,7 @@ abbrev pub closing-answer : Bool → Kind
 closing-answer true = Ua
 closing-answer false = Dm
 
-pub marked-answer : (up : Bool) (ns nr b : ℕ) (x : Block) → marked (parts (closing-answer up) ns nr b x) ≡ true
+marked-answer : (up : Bool) (ns nr b : ℕ) (x : Block) → marked (parts (closing-answer up) ns nr b x) ≡ true
 marked-answer true ns nr b x = refl
 marked-answer false ns nr b x = refl
 

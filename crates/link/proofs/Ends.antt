@@ -2,14 +2,14 @@
 use mathlib.Core.Path.{_≡_, refl, sym, ap, subst, _∙_}
 use mathlib.Core.List.{List, [], _∷_, _++_}
 use mathlib.Core.Bool.{Bool, true, false}
-use Prim.Native.Nat.{ℕ, _+_, _%_, _≤_, _<_, max}
+use Prim.Native.Nat.{ℕ, _+_, _≤_, _<_, max}
 use native.Mathlib.Omega.{arith}
 use lib.ListN.{length, getD, take}
 use lib.Dec.{ltb, eqb}
 use Rattle.std.specs.declared.option.Option.the-variants.{Some, None}
 use Rattle.std.proofs.shelf.Lists.{length-push, take-more, take-append-le}
 use Rattle.std.proofs.shelf.Tests.{eqb-true, and-parts}
-use Rattle.frames.specs.declared.kind.Kind.the-variants.{I, Disc}
+use Rattle.frames.specs.declared.kind.Kind.the-variants.{Disc}
 use Rattle.frames.specs.Parts.{parts}
 use Rattle.lines.specs.Entries.{Entry}
 use Rattle.stations.specs.Station.{Block, Station, outstanding, passed, allowed, wanted, sent, with-waiting}
@@ -26,12 +26,17 @@ use Rattle.link.proofs.Marks.{Marks}
 use Rattle.link.proofs.Flows.{Tells, Carries, Stream, Flow, flow-low, flow-most, flow-less, flow-more, flow-accept, flow-put-info, flow-put-status, flow-again, flow-thin, flow-put-disc}
 use Rattle.link.proofs.Tallies.{Sound, sound-waiting, sound-fetched, sound-sent, carries-sent, is-allowed, reaches, sound-acknowledge, sound-far, sound-take-in}
 
+-- a way on which the end with the tally this puts, and the end with the tally other takes; a DISC may stand last where c
+-- is true
+abbrev pub Between : Bool → Tally → Tally → List Entry → Type 0
+Between c this other es = Stream (this .accepted) (length (this .taken)) c (length (other .taken)) (other .acknowledged) es
+
 -- x puts on xy, and y on yx, which may end in a DISC where c is true
 pub record Duplex (c : Bool) (x : Station) (xt : Tally) (y : Station) (yt : Tally) (xy yx : List Entry) : Type 0 where
   pub left : Sound x xt
   pub right : Sound y yt
-  pub there : Flow (xt .accepted) (length (xt .taken)) (length (yt .taken)) (yt .acknowledged) xy
-  pub back : Stream (yt .accepted) (length (yt .taken)) c (length (xt .taken)) (xt .acknowledged) yx
+  pub there : Between false xt yt xy
+  pub back : Between c yt xt yx
   pub got-there : yt .taken ≡ take (length (yt .taken)) (xt .accepted)
   pub got-back : xt .taken ≡ take (length (xt .taken)) (yt .accepted)
 
@@ -57,7 +62,7 @@ module _ {c : Bool} {x : Station} {xt : Tally} {y : Station} {yt : Tally} {xy yx
         right = h .right;
         there =
             flow-put-info (ltb (length xy) k) (x .vs) (x .vr) 0 (length (xt .accepted)) z (sym (h .left .vr-is))
-              (carries-sent z (h .left) free) (flow-accept z (h .there));
+            (carries-sent z (h .left) free) (flow-accept z (h .there));
         back = h .back;
         got-there = h .got-there ∙ sym (take-append-le (length (yt .taken)) (xt .accepted) (z ∷ []) (flow-most (h .there)));
         got-back = h .got-back;
@@ -80,12 +85,12 @@ module _ {c : Bool} {x : Station} {xt : Tally} {y : Station} {yt : Tally} {xy yx
       record { left = h .left; right = sound-fetched z (h .right); there = h .there; back = h .back; got-there = h .got-there; got-back = h .got-back }
 
   -- way there, way back
-  pub with-there : {es : List Entry} → Duplex c x xt y yt xy yx →
-      Flow (xt .accepted) (length (xt .taken)) (length (yt .taken)) (yt .acknowledged) es → Duplex c x xt y yt es yx
+  with-there : {es : List Entry} → Duplex c x xt y yt xy yx →
+      Between false xt yt es → Duplex c x xt y yt es yx
   with-there h f = record { left = h .left; right = h .right; there = f; back = h .back; got-there = h .got-there; got-back = h .got-back }
 
-  pub with-back : {d : Bool} {es : List Entry} → Duplex c x xt y yt xy yx →
-      Stream (yt .accepted) (length (yt .taken)) d (length (xt .taken)) (xt .acknowledged) es → Duplex d x xt y yt xy es
+  with-back : {d : Bool} {es : List Entry} → Duplex c x xt y yt xy yx →
+      Between d yt xt es → Duplex d x xt y yt xy es
   with-back h f = record { left = h .left; right = h .right; there = h .there; back = f; got-there = h .got-there; got-back = h .got-back }
 
   pub thin-there : {es : List Entry} → Thin xy es → Duplex c x xt y yt xy yx → Duplex c x xt y yt es yx
@@ -97,16 +102,16 @@ module _ {c : Bool} {x : Station} {xt : Tally} {y : Station} {yt : Tally} {xy yx
   pub status-duplex : (k : ℕ) → Duplex c x xt y yt xy yx → Duplex c x xt y yt (put k xy (status x)) yx
   status-duplex k h =
       with-there h
-        (flow-put-status (ltb (length xy) k) (eqb (length (x .waiting)) 7) 0 (x .vr) 1 [] (sym (h .left .vr-is)) (h .there))
+      (flow-put-status (ltb (length xy) k) (eqb (length (x .waiting)) 7) 0 (x .vr) 1 [] (sym (h .left .vr-is)) (h .there))
 
   again-duplex : (k : ℕ) → Duplex c x xt y yt xy yx → Duplex c x xt y yt (again k x xy) yx
   again-duplex k h = with-there h (go (x .busy))
     where
-      go : (busy : Bool) → Flow (xt .accepted) (length (xt .taken)) (length (yt .taken)) (yt .acknowledged) (again-by busy k x xy)
+      go : (busy : Bool) → Between false xt yt (again-by busy k x xy)
       go true = h .there
       go false =
           flow-again k x (xt .acknowledged) (x .va) (x .window) (sym (h .left .vr-is)) (sym (h .left .va-is))
-            (h .left .room) (h .left .window-is) (h .there)
+          (h .left .room) (h .left .window-is) (h .there)
 
   -- a DISC goes out on the way to x
   pub disc-duplex : (room : Bool) (ns nr b : ℕ) (z : Block) {d : ℕ} {P : ℕ → Type 0} →
@@ -160,16 +165,16 @@ module _ {c : Bool} {x : Station} {xt : Tally} {y : Station} {yt : Tally} {xy es
       let top : v ≤ length (xt .accepted) = omega (arith, flow-low rest, flow-most (h .there)) in
       let P : Bool → Type 0 = λ w. Duplex c (heard-s w x busy nr .station) (told z (heard-s w x busy nr) xt) y yt xy es in
       let r : P true =
-        record {
-          left = sound-far (h .left) v nr (t .number) (t .low) top busy;
-          right = h .right;
-          there = h .there;
-          back =
-              flow-less (length (xt .taken)) (xt .acknowledged + passed x nr) (omega arith)
-                (omega (arith, reaches (h .left) v nr (t .number) (t .low) top)) rest;
-          got-there = h .got-there;
-          got-back = h .got-back;
-        } in
+      record {
+        left = sound-far (h .left) v nr (t .number) (t .low) top busy;
+        right = h .right;
+        there = h .there;
+        back =
+            flow-less (length (xt .taken)) (xt .acknowledged + passed x nr) (omega arith)
+            (omega (arith, reaches (h .left) v nr (t .number) (t .low) top)) rest;
+        got-there = h .got-there;
+        got-back = h .got-back;
+      } in
       subst P (sym (told-allowed t rest h)) r
 
   -- an I frame
@@ -179,7 +184,7 @@ module _ {c : Bool} {x : Station} {xt : Tally} {y : Station} {yt : Tally} {xy es
       Duplex c (hear-i x ns nr z .station) (told z (hear-i x ns nr z) xt) y yt xy es
   info-heard {ns} {nr} {n} {v} {z} k t rest h =
       let P : Bool → Type 0 =
-        λ w. Duplex c (heard-i w (wanted x ns) x nr z .station) (told z (heard-i w (wanted x ns) x nr z) xt) y yt xy es in
+      λ w. Duplex c (heard-i w (wanted x ns) x nr z .station) (told z (heard-i w (wanted x ns) x nr z) xt) y yt xy es in
       subst P (sym (told-allowed t rest h)) (go (wanted x ns) refl)
     where
       top : v ≤ length (xt .accepted)
@@ -202,10 +207,10 @@ module _ {c : Bool} {x : Station} {xt : Tally} {y : Station} {yt : Tally} {xy es
           let r : ℕ = length (xt .taken) in
           let at-front : ns ≡ x .vr = eqb-true ns (x .vr) (and-parts _ _ w .0) in
           let is : n ≡ r =
-            same-count n r (k .number ∙ at-front ∙ h .left .vr-is) (k .near) (omega (arith, h .right .room, flow-low (h .there), k .accepted)) in
+          same-count n r (k .number ∙ at-front ∙ h .left .vr-is) (k .near) (omega (arith, h .right .room, flow-low (h .there), k .accepted)) in
           let grown = length-push (xt .taken) z in
           let more : take (r + 1) (yt .accepted) ≡ take r (yt .accepted) ++ (getD (yt .accepted) r [] ∷ []) =
-            take-more (yt .accepted) r [] (omega (arith, k .accepted)) in
+          take-more (yt .accepted) r [] (omega (arith, k .accepted)) in
           record {
             left = sound-take-in (h .left) v nr (t .number) (t .low) top z;
             right = h .right;

@@ -2,7 +2,7 @@
 use mathlib.Core.Path.{_≡_, refl}
 use mathlib.Core.List.{List, [], _∷_}
 use mathlib.Core.Bool.{Bool, true, false}
-use Prim.Native.Nat.{ℕ, _+_, _*_, _≤_, _<_}
+use Prim.Native.Nat.{ℕ, _+_, _*_, _≤_}
 use native.Mathlib.Omega.{arith}
 use lib.ListN.{length}
 use lib.Dec.{ltb, eqb}
@@ -71,7 +71,7 @@ module _ {g : Measures} where
   exchange-answer room r m e (asked h j) =
       let x = marks-age true m h in
       answered (marks-any No-age false (marks-after true m h))
-        (marks-put-mark room r e (omega arith, omega arith) (marks-any (Answer-age (g .d) _) false j))
+      (marks-put-mark room r e (omega arith, omega arith) (marks-any (Answer-age (g .d) _) false j))
   exchange-answer room r m e (answered h j) = absurd (no-mark m h)
 
   -- where a request is at the front, no answer is on its way
@@ -116,8 +116,8 @@ module _ {g : Measures} where
   exchange-final false false k x m h = exchange-one marks-tail h
   exchange-final false true k x {two = two} m h =
       exchange-two (marks-again (x .busy) k x)
-        (exchange-answer (ltb (length two) k) (status x) m
-          (marked-status (eqb (length (x .waiting)) 7) 0 (x .vr) 1 []) h)
+      (exchange-answer (ltb (length two) k) (status x) m
+      (marked-status (eqb (length (x .waiting)) 7) 0 (x .vr) 1 []) h)
 
   -- the primary takes one, and a final ends the exchange
   pub exchange-resend : (refused : Bool) (v : Bool) (k : ℕ) (x : Station) (t : Timer) {a : ℕ} {f : Parts} {one two : List Entry} →

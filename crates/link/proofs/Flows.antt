@@ -11,7 +11,7 @@ use Rattle.frames.specs.declared.kind.Kind.the-variants.{I, Disc}
 use Rattle.frames.specs.Parts.{parts}
 use Rattle.lines.specs.Entries.{Entry, struck, frame}
 use Rattle.stations.specs.Station.{Block, Station, status-by}
-use Rattle.stations.specs.Puts.{put-by, inform, again-from}
+use Rattle.stations.specs.Puts.{put-by, again-from}
 use Rattle.link.proofs.Thinning.{Thin, none, mute, same, hit, gone}
 use Rattle.link.proofs.Marks.{Marks, blank, unmarked, no-mark}
 
@@ -86,7 +86,7 @@ module _ {blocks : List Block} {hi : ℕ} where
   flow-less m′ lo′ a b (skip f) = skip (flow-less m′ lo′ a b f)
   flow-less m′ lo′ a b (info {n = n} {v = v} c t f) =
       info (carries-less m′ a c) (record { number = t .number; low = omega arith })
-        (flow-less (max m′ (n + 1)) v (omega arith) (omega arith) f)
+      (flow-less (max m′ (n + 1)) v (omega arith) (omega arith) f)
   flow-less m′ lo′ a b (status {v = v} w t f) =
       status w (record { number = t .number; low = omega arith }) (flow-less m′ v a (omega arith) f)
 
@@ -145,7 +145,7 @@ module _ {blocks : List Block} {hi : ℕ} where
       let tail : zs ≡ drop (n + 1) blocks = cc in
       let c : Carries blocks ns (length blocks) n z = record { number = q; accepted = l; block = head; near = r } in
       flow-again k x (n + 1) ((ns + 1) % 8) zs e (omega arith) (omega arith) tail
-        (flow-put-info (ltb (length es) k) ns (x .vr) 0 n z e c f)
+      (flow-put-info (ltb (length es) k) ns (x .vr) 0 n z e c f)
 
   -- a flow that is thinned is a flow
   pub flow-thin : {es fs : List Entry} → Thin es fs → {c : Bool} {m lo : ℕ} → Stream blocks hi c m lo es → Stream blocks hi c m lo fs

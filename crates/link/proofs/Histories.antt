@@ -1,7 +1,7 @@
 -- The invariant holds after every list of calls on a sound link.
 use mathlib.Core.Path.{_≡_, refl, sym, ap, subst, _∙_}
 use mathlib.Core.List.{List, [], _∷_}
-use Prim.Native.Nat.{ℕ, _+_, _*_, _≤_}
+use Prim.Native.Nat.{_+_, _*_, _≤_}
 use Rattle.std.specs.declared.option.Option.the-variants.{None}
 use Rattle.link.specs.declared.end.End.the-variants.{Primary, Secondary}
 use Rattle.link.specs.State.{Measures, State, Model}
@@ -11,7 +11,6 @@ use Rattle.link.proofs.Phases.{Good, Then}
 use Rattle.link.proofs.Requests.{keep-opens, keep-closes, keep-polls}
 use Rattle.link.proofs.Ticks.{keep-ticks}
 use Rattle.link.proofs.Sends.{keep-primary-sends, keep-secondary-sends}
-use Rattle.link.proofs.Takes.{Taking}
 use Rattle.link.proofs.PrimaryTakes.{primary-takes}
 use Rattle.link.proofs.SecondaryTakes.{secondary-takes}
 use Rattle.link.proofs.Fetches.{keep-primary-fetches, keep-secondary-fetches}
@@ -44,4 +43,4 @@ keep-run l x y large sound now h [] = subst (λ w. Good (l .measures) w y) (sym 
 keep-run l x y large sound now h (c ∷ cs) =
     let g : Measures = l .measures in
     keep-run (step l c) (leaves c g x) (notes c g x y) large sound
-      (ap (λ o. held-by o (l .now) (leaves c g (l .now))) sound ∙ ap (leaves c g) now) (keep-call g large c x y h) cs
+    (ap (λ o. held-by o (l .now) (leaves c g (l .now))) sound ∙ ap (leaves c g) now) (keep-call g large c x y h) cs

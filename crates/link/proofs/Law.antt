@@ -1,12 +1,12 @@
 -- The law: a link that its check grants keeps its promise after every list of calls.
-use mathlib.Core.Path.{_≡_, refl, sym, subst}
+use mathlib.Core.Path.{_≡_, refl, subst}
 use mathlib.Core.List.{List, [], _∷_}
 use mathlib.Core.Bool.{Bool, true, false, _&&_}
-use Prim.Native.Nat.{ℕ, zero, suc, _+_, _*_, _≤_}
+use Prim.Native.Nat.{ℕ, _+_, _*_, _≤_}
 use native.Mathlib.Omega.{arith}
 use lib.ListN.{length}
 use lib.Dec.{leb, eqb}
-use Rattle.std.specs.declared.option.Option.the-variants.{Some, None}
+use Rattle.std.specs.declared.option.Option.the-variants.{None}
 use Rattle.std.specs.declared.result.Result.the-variants.{Err}
 use Rattle.std.proofs.shelf.Tests.{leb-true, eqb-true, and-parts}
 use Rattle.lines.specs.Entries.{Entry, Lists}
@@ -18,11 +18,11 @@ use Rattle.link.specs.declared.end.End.the-variants.{Primary, Secondary}
 use Rattle.link.specs.declared.refusal.LinkRefusal.the-variants.{Station as By-station}
 use Rattle.link.specs.State.{Measures, State, state, Model, timed, no-entries, fault-by, made}
 use Rattle.link.specs.Calls.{takes-answer}
-use Rattle.link.specs.History.{Call, run, Account, account, no-tally, account-of}
-use Rattle.link.specs.Promise.{Promised, Never-numbering, Kept, Law}
+use Rattle.link.specs.History.{Call, run, Account, account, no-tally}
+use Rattle.link.specs.Promise.{Promised, Kept, Law}
 use Rattle.link.proofs.Ends.{flip, direction}
 use Rattle.link.proofs.Phases.{Phase, shut, rising, flowing, ending, falling, Wholes, Good}
-use Rattle.link.proofs.Takes.{Unrefused, Taking}
+use Rattle.link.proofs.Takes.{Unrefused}
 use Rattle.link.proofs.PrimaryTakes.{primary-takes}
 use Rattle.link.proofs.SecondaryTakes.{secondary-takes}
 use Rattle.link.proofs.Histories.{run-measures, keep-run}
@@ -81,8 +81,8 @@ module _ (ls : Lists) (t : ℕ) (sound : made ls t .fault ≡ None) where
   start : Good (made ls t .measures) (made ls t .now) (account no-tally no-tally)
   start =
       subst (λ one. Good (made ls t .measures) (state one (ls .two) Closed None false fresh fresh) (account no-tally no-tally)) one-empty
-        (subst (λ two. Good (made ls t .measures) (state [] two Closed None false fresh fresh) (account no-tally no-tally)) two-empty
-          (shut, (record { whole = refl }, record { whole = refl })))
+      (subst (λ two. Good (made ls t .measures) (state [] two Closed None false fresh fresh) (account no-tally no-tally)) two-empty
+      (shut, (record { whole = refl }, record { whole = refl })))
 
   kept : (calls : List Call) → Kept (made ls t) calls
   kept calls =

@@ -145,8 +145,8 @@ pub newly-sent : {two : List Entry} {s : Station} {st : Tally} (k : ℕ) (z : Bl
     Newly true (put k two (inform s (s .vs) z)) (sent s z) (accept z st)
 newly-sent {two} {s} {st} k z free sound none-acknowledged none-taken b =
     just-open (sound-sent z sound free) none-acknowledged none-taken
-      (behind-put-info (ltb (length two) k) (s .vs) (s .vr) 0 (length (st .accepted)) z
-        (sym (sound .vr-is ∙ ap (λ w. length w % 8) none-taken)) (carries-sent z sound free) (behind-accept z b))
+    (behind-put-info (ltb (length two) k) (s .vs) (s .vr) 0 (length (st .accepted)) z
+    (sym (sound .vr-is ∙ ap (λ w. length w % 8) none-taken)) (carries-sent z sound free) (behind-accept z b))
 
 -- and blocks of an earlier connection may be fetched from it
 pub newly-waiting : {u : Bool} {two : List Entry} {s : Station} {st : Tally} (zs : List Block) →

@@ -2,12 +2,11 @@
 use mathlib.Core.Path.{_≡_, refl, sym, ap, subst, _∙_}
 use mathlib.Core.List.{List, [], _∷_}
 use mathlib.Core.Bool.{Bool, true, false}
-use Prim.Native.Nat.{ℕ, _+_, max}
+use Prim.Native.Nat.{ℕ}
 use native.Mathlib.Omega.{arith}
 use lib.ListN.{length, take}
 use lib.Dec.{eqb}
-use Rattle.std.specs.declared.option.Option.the-variants.{Some, None}
-use Rattle.frames.specs.declared.kind.Kind.the-variants.{I}
+use Rattle.std.specs.declared.option.Option.the-variants.{Some}
 use Rattle.frames.specs.Parts.{parts}
 use Rattle.lines.specs.Entries.{Entry, frame}
 use Rattle.stations.specs.declared.mode.Mode.the-variants.{Opening, Open, Closing}
@@ -20,9 +19,9 @@ use Rattle.link.specs.History.{Tally, Account, account, restart, acknowledge}
 use Rattle.link.specs.Promise.{Whole}
 use Rattle.link.proofs.Marks.{Marks, marked-status, marks-tail}
 use Rattle.link.proofs.Exchange.{Exchange, exchange-none, exchange-two, exchange-done, exchange-resend}
-use Rattle.link.proofs.Flows.{Tells, Stream, Flow, done, skip, info, status, flow-less, flow-more}
+use Rattle.link.proofs.Flows.{Tells, Flow, done, skip, info, status, flow-less, flow-more}
 use Rattle.link.proofs.Tallies.{Sound, sound-reset}
-use Rattle.link.proofs.Ends.{Duplex, told, info-unrefused, status-unrefused, told-allowed, status-heard, info-heard, tail-back, tail-there, resend-duplex}
+use Rattle.link.proofs.Ends.{Between, Duplex, told, info-unrefused, status-unrefused, told-allowed, status-heard, info-heard, tail-back, tail-there, resend-duplex}
 use Rattle.link.proofs.Openings.{Sarms, sarms-flow, Behind, behind-none, behind-struck, behind-info, behind-status, behind-ua, still-closed, just-open}
 use Rattle.link.proofs.Closings.{Ending, Last, last-none, last-struck, last-info, last-status, last-answer}
 use Rattle.link.proofs.Phases.{Phase, shut, rising, flowing, ending, falling, Wholes, Good}
@@ -50,32 +49,34 @@ module _ {g : Measures} where
       Exchange g t one (frame a (parts (status-by busy) ns nr b z) ∷ es) → Duplex false p pt s st one es →
       Whole p pt × Whole s st →
       Good g
-        (state (resend-by (hear-s p busy nr .refused) (eqb b 1) t (g .k) (hear-s p busy nr .station) one) es Open
-          (timer-by (hear-s p busy nr .refused) (eqb b 1) t) true (hear-s p busy nr .station) s)
-        (account (told z (hear-s p busy nr) pt) st)
+      (state (resend-by (hear-s p busy nr .refused) (eqb b 1) t (g .k) (hear-s p busy nr .station) one) es Open
+      (timer-by (hear-s p busy nr .refused) (eqb b 1) t) true (hear-s p busy nr .station) s)
+      (account (told z (hear-s p busy nr) pt) st)
   status-good {t} {p} {pt = pt} {ns = ns} {nr = nr} {b = b} {z = z} busy l rest i d q =
-      let h = hear-s p busy nr in
-      (flowing (exchange-resend (h .refused) (eqb b 1) (g .k) (h .station) t (marked-status busy ns nr b z) i)
-        (resend-duplex (h .refused) (eqb b 1) t (g .k) (status-heard busy z l rest d)),
-      (whole-status (allowed p nr) p pt busy nr z (q .0), q .1))
+      let h = hear-s p busy nr in (
+        flowing (exchange-resend (h .refused) (eqb b 1) (g .k) (h .station) t (marked-status busy ns nr b z) i)
+            (resend-duplex (h .refused) (eqb b 1) t (g .k) (status-heard busy z l rest d)),
+        (whole-status (allowed p nr) p pt busy nr z (q .0), q .1),
+      )
 
   take-flowing : {t : Timer} {one two : List Entry} {p s : Station} {pt st : Tally} →
-      Flow (st .accepted) (length (st .taken)) (length (pt .taken)) (pt .acknowledged) two →
+      Between false st pt two →
       Exchange g t one two → Duplex false p pt s st one two → Whole p pt × Whole s st →
       Taking g Primary (state one two Open t true p s) (account pt st)
   take-flowing (done l h) i d q = took tt (flowing i d, q)
   take-flowing (skip f) i d q = took tt (flowing (exchange-two marks-tail i) (tail-back d), q)
   take-flowing {p = p} {pt = pt} (info {ns = ns} {nr = nr} {x = z} k l f) i d q =
       let h = tail-back d in
-      heard _ _ (hear-i p ns nr z) refl refl (info-unrefused p ns nr z (told-allowed l f h))
-        (flowing (exchange-two marks-tail i) (info-heard k l f h),
-        (whole-info (allowed p nr) (wanted p ns) p pt nr z (q .0), q .1))
+      heard _ _ (hear-i p ns nr z) refl refl (info-unrefused p ns nr z (told-allowed l f h)) (
+        flowing (exchange-two marks-tail i) (info-heard k l f h),
+        (whole-info (allowed p nr) (wanted p ns) p pt nr z (q .0), q .1),
+      )
   take-flowing {p = p} (status {nr = nr} true l f) i d q =
       heard _ _ (hear-s p true nr) refl refl (status-unrefused p true nr (told-allowed l f (tail-back d)))
-        (status-good true l f i (tail-back d) q)
+      (status-good true l f i (tail-back d) q)
   take-flowing {p = p} (status {nr = nr} false l f) i d q =
       heard _ _ (hear-s p false nr) refl refl (status-unrefused p false nr (told-allowed l f (tail-back d)))
-        (status-good false l f i (tail-back d) q)
+      (status-good false l f i (tail-back d) q)
 
   -- any frame but the UA is passed over
   take-rising : {n : ℕ} {one two : List Entry} {p s : Station} {pt st : Tally} →
@@ -100,10 +101,10 @@ module _ {g : Measures} where
       Good g (state one es Closing (Some n) true p s) (account (acknowledge 0 pt) st)
   passed {n} {one} {es} {p = p} {s = s} {pt = pt} {st = st} i d q =
       subst (λ y. Good g (state one es Closing (Some n) true p s) (account y st)) (sym (acknowledge-none pt))
-        (ending (exchange-two marks-tail i) (tail-there d), q)
+      (ending (exchange-two marks-tail i) (tail-there d), q)
 
   take-ending : {n : ℕ} {one two : List Entry} {p s : Station} {pt st : Tally} →
-      Flow (st .accepted) (length (st .taken)) (length (pt .taken)) (pt .acknowledged) two →
+      Between false st pt two →
       Exchange g (Some n) one two → Duplex true s st p pt two one → Whole p pt × Whole s st →
       Taking g Primary (state one two Closing (Some n) true p s) (account pt st)
   take-ending (done l h) i d q = took tt (ending i d, q)

@@ -24,7 +24,7 @@ use Rattle.link.proofs.Marks.{marked-status, marks-tail}
 use Rattle.link.proofs.Exchange.{Exchange, exchange-one, exchange-answer, exchange-free, exchange-final}
 use Rattle.link.proofs.Flows.{Tells, Carries, Stream, Flow, done, skip, info, status, disc}
 use Rattle.link.proofs.Tallies.{sound-reset}
-use Rattle.link.proofs.Ends.{Duplex, flip, told, info-unrefused, status-unrefused, told-allowed, status-heard, info-heard, tail-back, final-duplex}
+use Rattle.link.proofs.Ends.{Between, Duplex, flip, told, info-unrefused, status-unrefused, told-allowed, status-heard, info-heard, tail-back, final-duplex}
 use Rattle.link.proofs.Openings.{Sarms, sarm-none, sarm-struck, sarm-next, Newly, just-open, newly-behind, behind-put-ua}
 use Rattle.link.proofs.Closings.{Ending, ending-none, ending-struck, ending-disc, Last, flow-last, last-free, last-put}
 use Rattle.link.proofs.Phases.{Phase, shut, rising, flowing, ending, falling, Wholes, Good}
@@ -44,9 +44,10 @@ module _ {g : Measures} where
       Whole p pt × Whole s st → Taking g Secondary (state (frame a (parts I ns nr b z) ∷ es) two m t true p s) (account pt st)
   take-info {s = s} {st = st} {ns = ns} {nr = nr} {z = z} phase k l rest i d q =
       let h = tail-back d in
-      heard _ _ (hear-i s ns nr z) refl refl (info-unrefused s ns nr z (told-allowed l rest h))
-        (phase _ _ _ _ (exchange-one marks-tail i) (info-heard k l rest h),
-        (q .0, whole-info (allowed s nr) (wanted s ns) s st nr z (q .1)))
+      heard _ _ (hear-i s ns nr z) refl refl (info-unrefused s ns nr z (told-allowed l rest h)) (
+        phase _ _ _ _ (exchange-one marks-tail i) (info-heard k l rest h),
+        (q .0, whole-info (allowed s nr) (wanted s ns) s st nr z (q .1)),
+      )
 
   -- RR or RNR
   status-good : {c : Bool} {m : Mode} {t : Timer} {p s : Station} {pt st : Tally} {es two : List Entry} {a ns nr b v : ℕ} {z : Block} (busy : Bool) →
@@ -55,12 +56,13 @@ module _ {g : Measures} where
       Exchange g t (frame a (parts (status-by busy) ns nr b z) ∷ es) two →
       Duplex c s st p pt two es → Whole p pt × Whole s st →
       Good g (state es (final-by (hear-s s busy nr .refused) (eqb b 1) (g .k) (hear-s s busy nr .station) two) m t true p (hear-s s busy nr .station))
-        (account pt (told z (hear-s s busy nr) st))
+      (account pt (told z (hear-s s busy nr) st))
   status-good {s = s} {st = st} {ns = ns} {nr = nr} {b = b} {z = z} busy phase l rest i d q =
-      let h = hear-s s busy nr in
-      (phase _ _ _ _ (exchange-final (h .refused) (eqb b 1) (g .k) (h .station) (marked-status busy ns nr b z) i)
-        (final-duplex (h .refused) (eqb b 1) (g .k) (status-heard busy z l rest d)),
-      (q .0, whole-status (allowed s nr) s st busy nr z (q .1)))
+      let h = hear-s s busy nr in (
+        phase _ _ _ _ (exchange-final (h .refused) (eqb b 1) (g .k) (h .station) (marked-status busy ns nr b z) i)
+            (final-duplex (h .refused) (eqb b 1) (g .k) (status-heard busy z l rest d)),
+        (q .0, whole-status (allowed s nr) s st busy nr z (q .1)),
+      )
 
   take-status : {c : Bool} {m : Mode} {t : Timer} {p s : Station} {pt st : Tally} {es two : List Entry} {a ns nr b v : ℕ} {z : Block} (busy : Bool) →
       Connects g c m t p pt → Tells nr (st .acknowledged) v →
@@ -70,13 +72,13 @@ module _ {g : Measures} where
       Taking g Secondary (state (frame a (parts (status-by busy) ns nr b z) ∷ es) two m t true p s) (account pt st)
   take-status {s = s} {nr = nr} true phase l rest i d q =
       heard _ _ (hear-s s true nr) refl refl (status-unrefused s true nr (told-allowed l rest (tail-back d)))
-        (status-good true phase l rest i (tail-back d) q)
+      (status-good true phase l rest i (tail-back d) q)
   take-status {s = s} {nr = nr} false phase l rest i d q =
       heard _ _ (hear-s s false nr) refl refl (status-unrefused s false nr (told-allowed l rest (tail-back d)))
-        (status-good false phase l rest i (tail-back d) q)
+      (status-good false phase l rest i (tail-back d) q)
 
   take-flowing : {t : Timer} {one two : List Entry} {p s : Station} {pt st : Tally} →
-      Flow (pt .accepted) (length (pt .taken)) (length (st .taken)) (st .acknowledged) one →
+      Between false pt st one →
       Exchange g t one two → Duplex false s st p pt two one → Whole p pt × Whole s st →
       Taking g Secondary (state one two Open t true p s) (account pt st)
   take-flowing (done l h) i d q = took tt (flowing i (flip d), q)
@@ -85,7 +87,7 @@ module _ {g : Measures} where
   take-flowing (status busy l f) i d q = take-status busy (λ es fs x xt j e. flowing j (flip e)) l f i d q
 
   take-ending : {n : ℕ} {one two : List Entry} {p s : Station} {pt st : Tally} →
-      Stream (pt .accepted) (length (pt .taken)) true (length (st .taken)) (st .acknowledged) one →
+      Between true pt st one →
       Exchange g (Some n) one two → Duplex true s st p pt two one → Whole p pt × Whole s st →
       Taking g Secondary (state one two Closing (Some n) true p s) (account pt st)
   take-ending (done l h) i d q = took tt (ending i d, q)
@@ -94,8 +96,10 @@ module _ {g : Measures} where
   take-ending (status busy l f) i d q = take-status busy (λ es fs x xt j e. ending j e) l f i d q
   take-ending {one = one} {two = two} (disc l h) i d q =
       let room = ltb (length two) (g .k) in
-      took tt (falling (exchange-answer room (plain Ua) refl refl i) ending-none (last-put room true 0 0 0 [] (flow-last one (d .there))),
-      (q .0, record { whole = q .1 .whole }))
+      took tt (
+        falling (exchange-answer room (plain Ua) refl refl i) ending-none (last-put room true 0 0 0 [] (flow-last one (d .there))),
+        (q .0, record { whole = q .1 .whole }),
+      )
 
   take-rising : {n : ℕ} {one two : List Entry} {u : Bool} {p s : Station} {pt st : Tally} →
       Sarms one → Exchange g (Some n) one two → Newly u two s st → Whole p pt × Whole s st →
@@ -105,9 +109,11 @@ module _ {g : Measures} where
   take-rising {two = two} {s = s} {st = st} (sarm-next h) i f q =
       let room = ltb (length two) (g .k) in
       let w = exchange-free refl i in
-      took tt (rising (exchange-answer room (plain Ua) refl refl i) h
-        (just-open (sound-reset s st) refl refl (behind-put-ua room 0 0 0 [] (newly-behind [] f w) w)),
-      (q .0, record { whole = q .1 .whole }))
+      took tt (
+        rising (exchange-answer room (plain Ua) refl refl i) h
+            (just-open (sound-reset s st) refl refl (behind-put-ua room 0 0 0 [] (newly-behind [] f w) w)),
+        (q .0, record { whole = q .1 .whole }),
+      )
 
   take-falling : {n : ℕ} {one two : List Entry} {p s : Station} {pt st : Tally} →
       Ending one → Exchange g (Some n) one two → Last one two → Whole p pt × Whole s st →
@@ -116,8 +122,10 @@ module _ {g : Measures} where
   take-falling (ending-struck {es = es} h) i l q = took tt (falling (exchange-one marks-tail i) h (last-free es l), q)
   take-falling {two = two} ending-disc i l q =
       let room = ltb (length two) (g .k) in
-      took tt (falling (exchange-answer room (plain Dm) refl refl i) ending-none (last-put room false 0 0 0 [] l),
-      (q .0, record { whole = q .1 .whole }))
+      took tt (
+        falling (exchange-answer room (plain Dm) refl refl i) ending-none (last-put room false 0 0 0 [] l),
+        (q .0, record { whole = q .1 .whole }),
+      )
 
   pub secondary-takes : {x : State} {y : Account} → Phase g x y → Wholes x y → Taking g Secondary x y
   secondary-takes shut q = took tt (shut, q)

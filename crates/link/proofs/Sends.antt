@@ -21,7 +21,7 @@ use Rattle.stations.specs.Secondary as secondary
 use Rattle.link.specs.declared.end.End.the-variants.{Primary, Secondary}
 use Rattle.link.specs.State.{Measures, State, state}
 use Rattle.link.specs.Calls.{by-primary, by-secondary, counted, replied}
-use Rattle.link.specs.History.{Tally, Account, account, accept, note-send, sends}
+use Rattle.link.specs.History.{Tally, Account, account, note-send, sends}
 use Rattle.link.specs.Promise.{Whole}
 use Rattle.link.proofs.Marks.{marks-put}
 use Rattle.link.proofs.Exchange.{Exchange, exchange-one, exchange-two}
@@ -56,23 +56,29 @@ module _ (g : Measures) (z : Block) where
     primary-flowing : {t : Timer} (r : Option StationRefusal) → send-check true p z ≡ r →
         Exchange g t one two → Duplex false p pt s st one two → primary-sent r one two t p s (account pt st)
     primary-flowing (Some e) check i d = (flowing i d, q)
-    primary-flowing None check i d =
-        (flowing (exchange-one (marks-put (ltb (length one) (g .k)) (inform p (p .vs) z) refl) i)
-          (send-duplex (g .k) z (granted-room p z check) d), (record { whole = q .0 .whole }, q .1))
+    primary-flowing None check i d = (
+      flowing (exchange-one (marks-put (ltb (length one) (g .k)) (inform p (p .vs) z) refl) i)
+          (send-duplex (g .k) z (granted-room p z check) d),
+      (record { whole = q .0 .whole }, q .1),
+    )
 
     secondary-flowing : {t : Timer} (r : Option StationRefusal) → send-check true s z ≡ r →
         Exchange g t one two → Duplex false s st p pt two one → secondary-sent r one two Open t p s (account pt st)
     secondary-flowing (Some e) check i d = (flowing i (flip d), q)
-    secondary-flowing None check i d =
-        (flowing (exchange-two (marks-put (ltb (length two) (g .k)) (inform s (s .vs) z) refl) i)
-          (flip (send-duplex (g .k) z (granted-room s z check) d)), (q .0, record { whole = q .1 .whole }))
+    secondary-flowing None check i d = (
+      flowing (exchange-two (marks-put (ltb (length two) (g .k)) (inform s (s .vs) z) refl) i)
+          (flip (send-duplex (g .k) z (granted-room s z check) d)),
+      (q .0, record { whole = q .1 .whole }),
+    )
 
     secondary-ending : {n : ℕ} (r : Option StationRefusal) → send-check true s z ≡ r →
         Exchange g (Some n) one two → Duplex true s st p pt two one → secondary-sent r one two Closing (Some n) p s (account pt st)
     secondary-ending (Some e) check i d = (ending i d, q)
-    secondary-ending None check i d =
-        (ending (exchange-two (marks-put (ltb (length two) (g .k)) (inform s (s .vs) z) refl) i)
-          (send-duplex (g .k) z (granted-room s z check) d), (q .0, record { whole = q .1 .whole }))
+    secondary-ending None check i d = (
+      ending (exchange-two (marks-put (ltb (length two) (g .k)) (inform s (s .vs) z) refl) i)
+          (send-duplex (g .k) z (granted-room s z check) d),
+      (q .0, record { whole = q .1 .whole }),
+    )
 
     -- before the primary is open
     secondary-rising : {n : ℕ} (r : Option StationRefusal) → send-check true s z ≡ r →
@@ -80,9 +86,11 @@ module _ (g : Measures) (z : Block) where
         Sound s st → st .acknowledged ≡ 0 → st .taken ≡ [] → Behind (st .accepted) two →
         secondary-sent r one two Opening (Some n) p s (account pt st)
     secondary-rising (Some e) check i h sound a t b = (rising i h (just-open sound a t b), q)
-    secondary-rising None check i h sound a t b =
-        (rising (exchange-two (marks-put (ltb (length two) (g .k)) (inform s (s .vs) z) refl) i) h
-          (newly-sent (g .k) z (granted-room s z check) sound a t b), (q .0, record { whole = q .1 .whole }))
+    secondary-rising None check i h sound a t b = (
+      rising (exchange-two (marks-put (ltb (length two) (g .k)) (inform s (s .vs) z) refl) i) h
+          (newly-sent (g .k) z (granted-room s z check) sound a t b),
+      (q .0, record { whole = q .1 .whole }),
+    )
 
   pub keep-primary-sends : {x : State} {y : Account} → Phase g x y → Wholes x y → Then (sends Primary z) g x y
   keep-primary-sends shut q = (shut, q)

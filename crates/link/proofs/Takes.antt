@@ -1,8 +1,8 @@
 -- What a take answers and notes on a link with the invariant: no refusal of the station, and what the frame told.
-use mathlib.Core.Path.{_≡_, refl, sym, ap, subst, _∙_}
-use mathlib.Core.List.{List, [], _∷_, _++_, append-assoc}
+use mathlib.Core.Path.{_≡_, sym, ap, subst, _∙_}
+use mathlib.Core.List.{[], _∷_, _++_, append-assoc}
 use mathlib.Core.Bool.{Bool, true, false}
-use Prim.Native.Nat.{ℕ, _+_}
+use Prim.Native.Nat.{ℕ}
 use native.Mathlib.Nat.{add-zero}
 use Rattle.std.specs.declared.option.Option.the-variants.{Some}
 use Rattle.std.specs.declared.result.Result.{Result}
@@ -57,7 +57,7 @@ heard {g} {e} {x} {y} f c h front answer ok good =
       unrefused = subst Unrefused (sym is) tt;
       after =
           subst (λ o. Good g (takes-leaves g e x) (note-take o (takes-answer g e x) e (takes-leaves g e x) y)) (sym front)
-            (subst (λ a. Good g (takes-leaves g e x) (note-take (Some f) a e (takes-leaves g e x) y)) (sym is) good);
+          (subst (λ a. Good g (takes-leaves g e x) (note-take (Some f) a e (takes-leaves g e x) y)) (sym is) good);
     }
 
 -- a frame that acknowledges nothing leaves the tally

@@ -36,7 +36,7 @@ sound-fetched z h =
     record { vs-is = h .vs-is; va-is = h .va-is; vr-is = h .vr-is; window-is = h .window-is; room = h .room; most = h .most }
 
 -- what is outstanding
-pub outstanding-is : {x : Station} {y : Tally} → Sound x y → outstanding x ≡ length (y .accepted) - y .acknowledged
+outstanding-is : {x : Station} {y : Tally} → Sound x y → outstanding x ≡ length (y .accepted) - y .acknowledged
 outstanding-is {x} {y} h = rw (h .vs-is, h .va-is) (apart (y .acknowledged) (length (y .accepted)) (h .most) (h .room))
 
 -- a send

@@ -37,19 +37,23 @@ module _ (g : Measures) (large : 2 * g .d + 1 ≤ g .t) where
   module _ (n : ℕ) (one two : List Entry) (p s : Station) (pt st : Tally) (q : Whole p pt × Whole s st) (i : Exchange g (Some n) one two) where
     tick-rising : (out u : Bool) → leb (g .t) (n + 1) ≡ out → Sarms one → Newly u two s st →
         Good g (ticked g out n one two Opening u p s) (account pt st)
-    tick-rising true u e h f =
-        (rising (exchange-ask (ltb (length (older (g .d) one)) (g .k)) (plain Sarm) refl (exchange-out large (leb-true (g .t) (n + 1) e) i))
+    tick-rising true u e h f = (
+      rising (exchange-ask (ltb (length (older (g .d) one)) (g .k)) (plain Sarm) refl (exchange-out large (leb-true (g .t) (n + 1) e) i))
           (sarms-put (ltb (length (older (g .d) one)) (g .k)) 0 0 0 [] (sarms-thin (thin-older (g .d) one) h))
-          (newly-thin (thin-older (g .d) two) f), q)
+          (newly-thin (thin-older (g .d) two) f),
+      q,
+    )
     tick-rising false u e h f =
         (rising (exchange-tick i) (sarms-thin (thin-older (g .d) one) h) (newly-thin (thin-older (g .d) two) f), q)
 
     tick-flowing : (out : Bool) → leb (g .t) (n + 1) ≡ out → Duplex false p pt s st one two →
         Good g (ticked g out n one two Open true p s) (account pt st)
     tick-flowing true e d =
-        let m = marked-status (eqb (length (p .waiting)) 7) 0 (p .vr) 1 [] in
-        (flowing (exchange-ask (ltb (length (older (g .d) one)) (g .k)) (status p) m (exchange-out large (leb-true (g .t) (n + 1) e) i))
-          (status-duplex (g .k) (thin-there (thin-older (g .d) one) (thin-back (thin-older (g .d) two) d))), q)
+        let m = marked-status (eqb (length (p .waiting)) 7) 0 (p .vr) 1 [] in (
+          flowing (exchange-ask (ltb (length (older (g .d) one)) (g .k)) (status p) m (exchange-out large (leb-true (g .t) (n + 1) e) i))
+              (status-duplex (g .k) (thin-there (thin-older (g .d) one) (thin-back (thin-older (g .d) two) d))),
+          q,
+        )
     tick-flowing false e d =
         (flowing (exchange-tick i) (thin-there (thin-older (g .d) one) (thin-back (thin-older (g .d) two) d)), q)
 
@@ -57,9 +61,11 @@ module _ (g : Measures) (large : 2 * g .d + 1 ≤ g .t) where
         Good g (ticked g out n one two Closing true p s) (account pt st)
     tick-ending true e d =
         let v = ltb (length (older (g .d) one)) (g .k) in
-        let w = exchange-out large (leb-true (g .t) (n + 1) e) i in
-        (ending (exchange-ask v (plain Disc) refl w)
-          (disc-duplex v 0 0 0 [] (thin-there (thin-older (g .d) two) (thin-back (thin-older (g .d) one) d)) (w .0)), q)
+        let w = exchange-out large (leb-true (g .t) (n + 1) e) i in (
+          ending (exchange-ask v (plain Disc) refl w)
+              (disc-duplex v 0 0 0 [] (thin-there (thin-older (g .d) two) (thin-back (thin-older (g .d) one) d)) (w .0)),
+          q,
+        )
     tick-ending false e d =
         (ending (exchange-tick i) (thin-there (thin-older (g .d) two) (thin-back (thin-older (g .d) one) d)), q)
 
@@ -67,12 +73,16 @@ module _ (g : Measures) (large : 2 * g .d + 1 ≤ g .t) where
         Good g (ticked g out n one two Closing false p s) (account pt st)
     tick-falling true e h l =
         let v = ltb (length (older (g .d) one)) (g .k) in
-        let w = exchange-out large (leb-true (g .t) (n + 1) e) i in
-        (falling (exchange-ask v (plain Disc) refl w) (ending-put v 0 0 0 [] (ending-thin h (thin-older (g .d) one)) (w .0))
-          (last-quiet _ (last-thin (thin-older (g .d) two) l) (w .1)), q)
-    tick-falling false e h l =
-        (falling (exchange-tick i) (ending-thin h (thin-older (g .d) one))
-          (last-thin-one (thin-older (g .d) one) (last-thin (thin-older (g .d) two) l)), q)
+        let w = exchange-out large (leb-true (g .t) (n + 1) e) i in (
+          falling (exchange-ask v (plain Disc) refl w) (ending-put v 0 0 0 [] (ending-thin h (thin-older (g .d) one)) (w .0))
+              (last-quiet _ (last-thin (thin-older (g .d) two) l) (w .1)),
+          q,
+        )
+    tick-falling false e h l = (
+      falling (exchange-tick i) (ending-thin h (thin-older (g .d) one))
+          (last-thin-one (thin-older (g .d) one) (last-thin (thin-older (g .d) two) l)),
+      q,
+    )
 
   pub keep-ticks : {x : State} {y : Account} → Phase g x y → Wholes x y → Then ticks g x y
   keep-ticks shut q = (shut, q)
