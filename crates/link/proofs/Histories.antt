@@ -28,7 +28,7 @@ keep-call g large (takes Primary) x y h = primary-takes (h .0) (h .1) .after
 keep-call g large (takes Secondary) x y h = secondary-takes (h .0) (h .1) .after
 keep-call g large (fetches Primary) x y h = keep-primary-fetches x y (h .0) (h .1)
 keep-call g large (fetches Secondary) x y h = keep-secondary-fetches x y (h .0) (h .1)
-keep-call g large (strikes w place start mask) x y h = keep-strikes place start mask w (h .0) (h .1)
+keep-call g large (strikes w place start mask) x y h = keep-strikes g place start mask w (h .0) (h .1)
 
 -- calls keep a link's measures
 pub run-measures : (l : Model) (calls : List Call) → run l calls .measures ≡ l .measures

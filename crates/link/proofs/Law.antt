@@ -45,7 +45,11 @@ promised (flowing i d) q = (q .0, q .1, λ e. (direction d, direction (flip d)))
 promised (ending i d) q = (q .0, q .1, λ e. absurd (closing-not-open e))
 promised (falling i e l) q = (q .0, q .1, λ e. absurd (closing-not-open e))
 
-numbered : {g : Measures} {x : State} {y : Account} → Good g x y → (e : End) → takes-answer g e x ≡ Err (By-station Numbering) → ⊥
+-- in no state with the invariant does a take answer numbering
+abbrev Refuses : Measures → State → End → Type 0
+Refuses g x e = takes-answer g e x ≡ Err (By-station Numbering)
+
+numbered : {g : Measures} {x : State} {y : Account} → Good g x y → (e : End) → Refuses g x e → ⊥
 numbered h Primary is = subst Unrefused is (primary-takes (h .0) (h .1) .unrefused)
 numbered h Secondary is = subst Unrefused is (secondary-takes (h .0) (h .1) .unrefused)
 
@@ -72,17 +76,21 @@ module _ (ls : Lists) (t : ℕ) (sound : made ls t .fault ≡ None) where
       leb-true (2 * ls .lifetime + 1) t (and-parts (leb 8 (ls .capacity)) enough first .1)
 
   one-empty : [] ≡ ls .one
-  one-empty = none-there (ls .one) (eqb-true (length (ls .one)) 0 (and-parts (eqb (length (ls .one)) 0) _ (tests .1) .0))
+  one-empty =
+      none-there (ls .one) (eqb-true (length (ls .one)) 0 (and-parts (eqb (length (ls .one)) 0) _ (tests .1) .0))
 
   two-empty : [] ≡ ls .two
-  two-empty = none-there (ls .two) (eqb-true (length (ls .two)) 0 (and-parts (eqb (length (ls .one)) 0) _ (tests .1) .1))
+  two-empty =
+      none-there (ls .two) (eqb-true (length (ls .two)) 0 (and-parts (eqb (length (ls .one)) 0) _ (tests .1) .1))
 
   -- so a new link has the invariant
-  start : Good (made ls t .measures) (made ls t .now) (account no-tally no-tally)
+  abbrev Starts : List Entry → List Entry → Type 0
+  Starts one two = Good (made ls t .measures) (state one two Closed None false fresh fresh) (account no-tally no-tally)
+
+  start : Starts (ls .one) (ls .two)
   start =
-      subst (λ one. Good (made ls t .measures) (state one (ls .two) Closed None false fresh fresh) (account no-tally no-tally)) one-empty
-      (subst (λ two. Good (made ls t .measures) (state [] two Closed None false fresh fresh) (account no-tally no-tally)) two-empty
-      (shut, (record { whole = refl }, record { whole = refl })))
+      subst (λ one. Starts one (ls .two)) one-empty
+      (subst (λ two. Starts [] two) two-empty (shut, (record { whole = refl }, record { whole = refl })))
 
   kept : (calls : List Call) → Kept (made ls t) calls
   kept calls =
@@ -91,7 +99,7 @@ module _ (ls : Lists) (t : ℕ) (sound : made ls t .fault ≡ None) where
       record {
         promised = promised (good .0) (good .1);
         numbered = λ e is.
-            numbered good e (subst (λ g. takes-answer g e (run l calls .now) ≡ Err (By-station Numbering)) (run-measures l calls) is);
+            numbered good e (subst (λ g. Refuses g (run l calls .now) e) (run-measures l calls) is);
       }
 
 pub law : (ls : Lists) (t : ℕ) → Law (made ls t)

@@ -15,8 +15,8 @@ use Rattle.link.proofs.Ends.{Duplex}
 use Rattle.link.proofs.Openings.{Sarms, Newly}
 use Rattle.link.proofs.Closings.{Ending, Last}
 
--- shut: both ends closed; rising: the primary opens; flowing: both are open; ending: the primary closes, the secondary is
--- open; falling: the primary closes, the secondary is closed
+-- shut: both ends are closed; rising: the primary opens; flowing: both are open; ending: the primary closes, and the
+-- secondary is open; falling: the primary closes, and the secondary is closed
 pub data Phase (g : Measures) : State → Account → Type 0 where
   shut : {p s : Station} {pt st : Tally} → Phase g (state [] [] Closed None false p s) (account pt st)
   rising : {n : ℕ} {one two : List Entry} {u : Bool} {p s : Station} {pt st : Tally} →

@@ -29,22 +29,24 @@ use Rattle.link.proofs.Takes.{Taking, took, heard, acknowledge-none, whole-inf
 
 -- with the UA the connection stands: nothing is taken in, and what is on the ways belongs to it
 connected : {d : ℕ} {P : ℕ → Type 0} {one es : List Entry} (p : Station) {s : Station} (pt : Tally) {st : Tally} →
-    Sound s st → st .acknowledged ≡ 0 → st .taken ≡ [] → Sarms one → Flow (st .accepted) 0 0 0 es → Marks d P false one →
+    Sound s st → st .acknowledged ≡ 0 → st .taken ≡ [] →
+    Sarms one → Flow (st .accepted) 0 0 0 es → Marks d P false one →
     Duplex false (reset p) (restart pt) s st one es
-connected p pt {st} sound none-acknowledged none-taken sarms f w =
-    let empty : length (st .taken) ≡ 0 = ap length none-taken in
+connected p pt {st} sound a r sarms f w =
+    let empty : length (st .taken) ≡ 0 = ap length r in
     record {
       left = sound-reset p pt;
       right = sound;
       there = flow-less (length (st .taken)) (st .acknowledged) (omega arith) (omega arith) (sarms-flow [] 0 sarms w);
       back = flow-more (length (st .taken)) (omega arith) f;
-      got-there = none-taken ∙ sym (ap (λ q. take (length q) []) none-taken);
+      got-there = r ∙ sym (ap (λ q. take (length q) []) r);
       got-back = refl;
     }
 
 module _ {g : Measures} where
   -- RR or RNR: a final ends the exchange
-  status-good : {t : Timer} {p s : Station} {pt st : Tally} {one es : List Entry} {a ns nr b v : ℕ} {z : Block} (busy : Bool) →
+  status-good : {t : Timer} {p s : Station} {pt st : Tally} {one es : List Entry} →
+      {a ns nr b v : ℕ} {z : Block} (busy : Bool) →
       Tells nr (pt .acknowledged) v → Flow (st .accepted) (length (st .taken)) (length (pt .taken)) v es →
       Exchange g t one (frame a (parts (status-by busy) ns nr b z) ∷ es) → Duplex false p pt s st one es →
       Whole p pt × Whole s st →
@@ -84,7 +86,8 @@ module _ {g : Measures} where
       Exchange g (Some n) one two → Whole p pt × Whole s st →
       Taking g Primary (state one two Opening (Some n) true p s) (account pt st)
   take-rising behind-none sound a r h i q = took tt (rising i h (just-open sound a r behind-none), q)
-  take-rising (behind-struck b) sound a r h i q = took tt (rising (exchange-two marks-tail i) h (just-open sound a r b), q)
+  take-rising (behind-struck b) sound a r h i q =
+      took tt (rising (exchange-two marks-tail i) h (just-open sound a r b), q)
   take-rising (behind-info b) sound a r h i q =
       took tt (rising (exchange-two marks-tail i) h (just-open sound a r b), (record { whole = q .0 .whole }, q .1))
   take-rising (behind-status true b) sound a r h i q =

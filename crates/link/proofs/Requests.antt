@@ -18,7 +18,7 @@ module _ {g : Measures} where
   pub keep-opens : {x : State} {y : Account} → Phase g x y → Wholes x y → Then opens g x y
   keep-opens shut q =
       let room = ltb 0 (g .k) in
-      (rising (exchange-ask room (plain Sarm) refl (empty, empty)) (sarms-put room 0 0 0 [] sarm-none) still-closed, q)
+      (rising (exchange-ask room (plain Sarm) refl (empty, empty)) (sarms-put room sarm-none) still-closed, q)
   keep-opens (rising i s f) q = (rising i s f, q)
   keep-opens (flowing i d) q = (flowing i d, q)
   keep-opens (ending i d) q = (ending i d, q)
@@ -30,7 +30,7 @@ module _ {g : Measures} where
   keep-closes (flowing {t = None} {one = one} i d) q =
       let w = quiet i in
       let room = ltb (length one) (g .k) in
-      (ending (exchange-ask room (plain Disc) refl w) (disc-duplex room 0 0 0 [] (flip d) (w .0)), q)
+      (ending (exchange-ask room (plain Disc) refl w) (disc-duplex room (flip d) (w .0)), q)
   keep-closes (flowing {t = Some n} i d) q = (flowing i d, q)
   keep-closes (ending i d) q = (ending i d, q)
   keep-closes (falling i e l) q = (falling i e l, q)

@@ -22,7 +22,7 @@ use Rattle.link.specs.History.{Tally, Account, account}
 use Rattle.link.specs.Promise.{Whole}
 use Rattle.link.proofs.Marks.{marked-status, marks-tail}
 use Rattle.link.proofs.Exchange.{Exchange, exchange-one, exchange-answer, exchange-free, exchange-final}
-use Rattle.link.proofs.Flows.{Tells, Carries, Stream, Flow, done, skip, info, status, disc}
+use Rattle.link.proofs.Flows.{Tells, Carries, Stream, done, skip, info, status, disc}
 use Rattle.link.proofs.Tallies.{sound-reset}
 use Rattle.link.proofs.Ends.{Between, Duplex, flip, told, info-unrefused, status-unrefused, told-allowed, status-heard, info-heard, tail-back, final-duplex}
 use Rattle.link.proofs.Openings.{Sarms, sarm-none, sarm-struck, sarm-next, Newly, just-open, newly-behind, behind-put-ua}
@@ -35,56 +35,57 @@ abbrev Connects : Measures → Bool → Mode → Timer → Station → Tally →
 Connects g c m t p pt = (es fs : List Entry) (x : Station) (xt : Tally) →
     Exchange g t es fs → Duplex c x xt p pt fs es → Phase g (state es fs m t true p x) (account pt xt)
 
-module _ {g : Measures} where
+module _ {g : Measures} {c : Bool} {m : Mode} {t : Timer} {p s : Station} {pt st : Tally} {es two : List Entry}
+    (phase : Connects g c m t p pt) {a ns nr b v : ℕ} {z : Block} (l : Tells nr (st .acknowledged) v) where
   -- an I frame
-  take-info : {c : Bool} {m : Mode} {t : Timer} {p s : Station} {pt st : Tally} {es two : List Entry} {a ns nr b n v : ℕ} {z : Block} →
-      Connects g c m t p pt → Carries (pt .accepted) ns (length (st .taken)) n z → Tells nr (st .acknowledged) v →
+  take-info : {n : ℕ} → Carries (pt .accepted) ns (length (st .taken)) n z →
       Stream (pt .accepted) (length (pt .taken)) c (max (length (st .taken)) (n + 1)) v es →
-      Exchange g t (frame a (parts I ns nr b z) ∷ es) two → Duplex c s st p pt two (frame a (parts I ns nr b z) ∷ es) →
-      Whole p pt × Whole s st → Taking g Secondary (state (frame a (parts I ns nr b z) ∷ es) two m t true p s) (account pt st)
-  take-info {s = s} {st = st} {ns = ns} {nr = nr} {z = z} phase k l rest i d q =
+      Exchange g t (frame a (parts I ns nr b z) ∷ es) two →
+      Duplex c s st p pt two (frame a (parts I ns nr b z) ∷ es) → Whole p pt × Whole s st →
+      Taking g Secondary (state (frame a (parts I ns nr b z) ∷ es) two m t true p s) (account pt st)
+  take-info k rest i d q =
       let h = tail-back d in
       heard _ _ (hear-i s ns nr z) refl refl (info-unrefused s ns nr z (told-allowed l rest h)) (
         phase _ _ _ _ (exchange-one marks-tail i) (info-heard k l rest h),
         (q .0, whole-info (allowed s nr) (wanted s ns) s st nr z (q .1)),
       )
 
-  -- RR or RNR
-  status-good : {c : Bool} {m : Mode} {t : Timer} {p s : Station} {pt st : Tally} {es two : List Entry} {a ns nr b v : ℕ} {z : Block} (busy : Bool) →
-      Connects g c m t p pt → Tells nr (st .acknowledged) v →
+  -- RR or RNR, and the answer to a poll
+  status-good : (busy : Bool) →
       Stream (pt .accepted) (length (pt .taken)) c (length (st .taken)) v es →
-      Exchange g t (frame a (parts (status-by busy) ns nr b z) ∷ es) two →
-      Duplex c s st p pt two es → Whole p pt × Whole s st →
-      Good g (state es (final-by (hear-s s busy nr .refused) (eqb b 1) (g .k) (hear-s s busy nr .station) two) m t true p (hear-s s busy nr .station))
-      (account pt (told z (hear-s s busy nr) st))
-  status-good {s = s} {st = st} {ns = ns} {nr = nr} {b = b} {z = z} busy phase l rest i d q =
+      Exchange g t (frame a (parts (status-by busy) ns nr b z) ∷ es) two → Duplex c s st p pt two es →
+      Whole p pt × Whole s st →
+      let h = hear-s s busy nr in
+      Good g (state es (final-by (h .refused) (eqb b 1) (g .k) (h .station) two) m t true p (h .station))
+      (account pt (told z h st))
+  status-good busy rest i d q =
       let h = hear-s s busy nr in (
         phase _ _ _ _ (exchange-final (h .refused) (eqb b 1) (g .k) (h .station) (marked-status busy ns nr b z) i)
             (final-duplex (h .refused) (eqb b 1) (g .k) (status-heard busy z l rest d)),
         (q .0, whole-status (allowed s nr) s st busy nr z (q .1)),
       )
 
-  take-status : {c : Bool} {m : Mode} {t : Timer} {p s : Station} {pt st : Tally} {es two : List Entry} {a ns nr b v : ℕ} {z : Block} (busy : Bool) →
-      Connects g c m t p pt → Tells nr (st .acknowledged) v →
+  take-status : (busy : Bool) →
       Stream (pt .accepted) (length (pt .taken)) c (length (st .taken)) v es →
       Exchange g t (frame a (parts (status-by busy) ns nr b z) ∷ es) two →
       Duplex c s st p pt two (frame a (parts (status-by busy) ns nr b z) ∷ es) → Whole p pt × Whole s st →
       Taking g Secondary (state (frame a (parts (status-by busy) ns nr b z) ∷ es) two m t true p s) (account pt st)
-  take-status {s = s} {nr = nr} true phase l rest i d q =
+  take-status true rest i d q =
       heard _ _ (hear-s s true nr) refl refl (status-unrefused s true nr (told-allowed l rest (tail-back d)))
-      (status-good true phase l rest i (tail-back d) q)
-  take-status {s = s} {nr = nr} false phase l rest i d q =
+      (status-good true rest i (tail-back d) q)
+  take-status false rest i d q =
       heard _ _ (hear-s s false nr) refl refl (status-unrefused s false nr (told-allowed l rest (tail-back d)))
-      (status-good false phase l rest i (tail-back d) q)
+      (status-good false rest i (tail-back d) q)
 
+module _ {g : Measures} where
   take-flowing : {t : Timer} {one two : List Entry} {p s : Station} {pt st : Tally} →
       Between false pt st one →
       Exchange g t one two → Duplex false s st p pt two one → Whole p pt × Whole s st →
       Taking g Secondary (state one two Open t true p s) (account pt st)
   take-flowing (done l h) i d q = took tt (flowing i (flip d), q)
   take-flowing (skip f) i d q = took tt (flowing (exchange-one marks-tail i) (flip (tail-back d)), q)
-  take-flowing (info k l f) i d q = take-info (λ es fs x xt j e. flowing j (flip e)) k l f i d q
-  take-flowing (status busy l f) i d q = take-status busy (λ es fs x xt j e. flowing j (flip e)) l f i d q
+  take-flowing (info k l f) i d q = take-info (λ es fs x xt j e. flowing j (flip e)) l k f i d q
+  take-flowing (status busy l f) i d q = take-status (λ es fs x xt j e. flowing j (flip e)) l busy f i d q
 
   take-ending : {n : ℕ} {one two : List Entry} {p s : Station} {pt st : Tally} →
       Between true pt st one →
@@ -92,12 +93,13 @@ module _ {g : Measures} where
       Taking g Secondary (state one two Closing (Some n) true p s) (account pt st)
   take-ending (done l h) i d q = took tt (ending i d, q)
   take-ending (skip f) i d q = took tt (ending (exchange-one marks-tail i) (tail-back d), q)
-  take-ending (info k l f) i d q = take-info (λ es fs x xt j e. ending j e) k l f i d q
-  take-ending (status busy l f) i d q = take-status busy (λ es fs x xt j e. ending j e) l f i d q
+  take-ending (info k l f) i d q = take-info (λ es fs x xt j e. ending j e) l k f i d q
+  take-ending (status busy l f) i d q = take-status (λ es fs x xt j e. ending j e) l busy f i d q
   take-ending {one = one} {two = two} (disc l h) i d q =
       let room = ltb (length two) (g .k) in
       took tt (
-        falling (exchange-answer room (plain Ua) refl refl i) ending-none (last-put room true 0 0 0 [] (flow-last one (d .there))),
+        falling (exchange-answer room (plain Ua) refl refl i) ending-none
+            (last-put room true (flow-last one (d .there))),
         (q .0, record { whole = q .1 .whole }),
       )
 
@@ -111,7 +113,7 @@ module _ {g : Measures} where
       let w = exchange-free refl i in
       took tt (
         rising (exchange-answer room (plain Ua) refl refl i) h
-            (just-open (sound-reset s st) refl refl (behind-put-ua room 0 0 0 [] (newly-behind [] f w) w)),
+            (just-open (sound-reset s st) refl refl (behind-put-ua room (newly-behind [] f w) w)),
         (q .0, record { whole = q .1 .whole }),
       )
 
@@ -123,7 +125,7 @@ module _ {g : Measures} where
   take-falling {two = two} ending-disc i l q =
       let room = ltb (length two) (g .k) in
       took tt (
-        falling (exchange-answer room (plain Dm) refl refl i) ending-none (last-put room false 0 0 0 [] l),
+        falling (exchange-answer room (plain Dm) refl refl i) ending-none (last-put room false l),
         (q .0, record { whole = q .1 .whole }),
       )
 

@@ -10,7 +10,6 @@ use Rattle.std.specs.declared.option.Option.{Option}
 use Rattle.std.specs.declared.option.Option.the-variants.{Some, None}
 use Rattle.std.proofs.shelf.Tests.{leb-false}
 use Rattle.lines.specs.Entries.{Entry}
-use Rattle.stations.specs.declared.mode.Mode.{Mode}
 use Rattle.stations.specs.declared.mode.Mode.the-variants.{Opening, Open, Closing}
 use Rattle.stations.specs.declared.refusal.StationRefusal.{StationRefusal}
 use Rattle.stations.specs.Station.{Block, Station, outstanding, send-refusal, send-check}
@@ -42,19 +41,19 @@ granted-room x z e =
 
 module _ (g : Measures) (z : Block) where
   -- the state and the account after a send whose check gave this
-  abbrev primary-sent : Option StationRefusal → List Entry → List Entry → Timer → Station → Station → Account → Type 0
-  primary-sent r one two t p s y =
+  abbrev Primary-sent : Option StationRefusal → List Entry → List Entry → Timer → Station → Station → Account → Type 0
+  Primary-sent r one two t p s y =
       let move = primary.send-by r (g .k) Open t p z one in
       Good g (by-primary move (state one two Open t true p s)) (note-send (counted move one) Primary z y)
 
-  abbrev secondary-sent : Option StationRefusal → List Entry → List Entry → Mode → Timer → Station → Station → Account → Type 0
-  secondary-sent r one two m t p s y =
+  abbrev Secondary-sent : Option StationRefusal → State → List Entry → Station → Account → Type 0
+  Secondary-sent r x two s y =
       let reply = secondary.send-by r (g .k) true s z two in
-      Good g (by-secondary reply (state one two m t true p s)) (note-send (replied reply two) Secondary z y)
+      Good g (by-secondary reply x) (note-send (replied reply two) Secondary z y)
 
   module _ {one two : List Entry} {p s : Station} {pt st : Tally} (q : Whole p pt × Whole s st) where
     primary-flowing : {t : Timer} (r : Option StationRefusal) → send-check true p z ≡ r →
-        Exchange g t one two → Duplex false p pt s st one two → primary-sent r one two t p s (account pt st)
+        Exchange g t one two → Duplex false p pt s st one two → Primary-sent r one two t p s (account pt st)
     primary-flowing (Some e) check i d = (flowing i d, q)
     primary-flowing None check i d = (
       flowing (exchange-one (marks-put (ltb (length one) (g .k)) (inform p (p .vs) z) refl) i)
@@ -63,7 +62,8 @@ module _ (g : Measures) (z : Block) where
     )
 
     secondary-flowing : {t : Timer} (r : Option StationRefusal) → send-check true s z ≡ r →
-        Exchange g t one two → Duplex false s st p pt two one → secondary-sent r one two Open t p s (account pt st)
+        Exchange g t one two → Duplex false s st p pt two one →
+        Secondary-sent r (state one two Open t true p s) two s (account pt st)
     secondary-flowing (Some e) check i d = (flowing i (flip d), q)
     secondary-flowing None check i d = (
       flowing (exchange-two (marks-put (ltb (length two) (g .k)) (inform s (s .vs) z) refl) i)
@@ -72,7 +72,8 @@ module _ (g : Measures) (z : Block) where
     )
 
     secondary-ending : {n : ℕ} (r : Option StationRefusal) → send-check true s z ≡ r →
-        Exchange g (Some n) one two → Duplex true s st p pt two one → secondary-sent r one two Closing (Some n) p s (account pt st)
+        Exchange g (Some n) one two → Duplex true s st p pt two one →
+        Secondary-sent r (state one two Closing (Some n) true p s) two s (account pt st)
     secondary-ending (Some e) check i d = (ending i d, q)
     secondary-ending None check i d = (
       ending (exchange-two (marks-put (ltb (length two) (g .k)) (inform s (s .vs) z) refl) i)
@@ -84,7 +85,7 @@ module _ (g : Measures) (z : Block) where
     secondary-rising : {n : ℕ} (r : Option StationRefusal) → send-check true s z ≡ r →
         Exchange g (Some n) one two → Sarms one →
         Sound s st → st .acknowledged ≡ 0 → st .taken ≡ [] → Behind (st .accepted) two →
-        secondary-sent r one two Opening (Some n) p s (account pt st)
+        Secondary-sent r (state one two Opening (Some n) true p s) two s (account pt st)
     secondary-rising (Some e) check i h sound a t b = (rising i h (just-open sound a t b), q)
     secondary-rising None check i h sound a t b = (
       rising (exchange-two (marks-put (ltb (length two) (g .k)) (inform s (s .vs) z) refl) i) h
@@ -102,7 +103,8 @@ module _ (g : Measures) (z : Block) where
   pub keep-secondary-sends : {x : State} {y : Account} → Phase g x y → Wholes x y → Then (sends Secondary z) g x y
   keep-secondary-sends shut q = (shut, q)
   keep-secondary-sends (rising i h still-closed) q = (rising i h still-closed, q)
-  keep-secondary-sends (rising {s = s} i h (just-open sound a t b)) q = secondary-rising q (send-check true s z) refl i h sound a t b
+  keep-secondary-sends (rising {s = s} i h (just-open sound a t b)) q =
+      secondary-rising q (send-check true s z) refl i h sound a t b
   keep-secondary-sends (flowing {s = s} i d) q = secondary-flowing q (send-check true s z) refl i (flip d)
   keep-secondary-sends (ending {s = s} i d) q = secondary-ending q (send-check true s z) refl i d
   keep-secondary-sends (falling i e l) q = (falling i e l, q)
