@@ -1,5 +1,5 @@
 -- The law: a link that its check grants keeps its promise after every list of calls.
-use mathlib.Core.Path.{_≡_, refl, subst}
+use mathlib.Core.Path.{_≡_, refl, ap, subst}
 use mathlib.Core.List.{List, [], _∷_}
 use mathlib.Core.Bool.{Bool, true, false, _&&_}
 use Prim.Native.Nat.{ℕ, _+_, _*_, _≤_}
@@ -8,11 +8,13 @@ use lib.ListN.{length}
 use lib.Dec.{leb, eqb}
 use Rattle.std.specs.declared.option.Option.the-variants.{None}
 use Rattle.std.specs.declared.result.Result.the-variants.{Err}
-use Rattle.std.proofs.shelf.Tests.{leb-true, eqb-true, and-parts}
+use Rattle.std.proofs.shelf.Tests.{both-ways, leb-true, eqb-true, and-parts}
 use Rattle.lines.specs.Entries.{Entry, Lists}
+use Rattle.stations.specs.declared.mode.Mode.{Mode}
 use Rattle.stations.specs.declared.mode.Mode.the-variants.{Closed, Opening, Open, Closing}
 use Rattle.stations.specs.declared.refusal.StationRefusal.the-variants.{Numbering}
 use Rattle.stations.specs.Station.{fresh}
+use Rattle.stations.specs.Primary.{is-open}
 use Rattle.link.specs.declared.end.End.{End}
 use Rattle.link.specs.declared.end.End.the-variants.{Primary, Secondary}
 use Rattle.link.specs.declared.refusal.LinkRefusal.the-variants.{Station as By-station}
@@ -29,21 +31,15 @@ use Rattle.link.proofs.Histories.{run-measures, keep-run}
 
 -- ---- what the invariant promises
 
-closed-not-open : Closed ≡ Open → ⊥
-closed-not-open e = let z : _≡_ {A = ℕ} 0 1 = cc in omega arith
-
-opening-not-open : Opening ≡ Open → ⊥
-opening-not-open e = let z : _≡_ {A = ℕ} 0 1 = cc in omega arith
-
-closing-not-open : Closing ≡ Open → ⊥
-closing-not-open e = let z : _≡_ {A = ℕ} 0 1 = cc in omega arith
+not-open : (m : Mode) → is-open m ≡ false → m ≡ Open → ⊥
+not-open m closed e = both-ways (is-open m) closed (ap is-open e)
 
 promised : {g : Measures} {x : State} {y : Account} → Phase g x y → Wholes x y → Promised x y
-promised shut q = (q .0, q .1, λ e. absurd (closed-not-open e))
-promised (rising i s f) q = (q .0, q .1, λ e. absurd (opening-not-open e))
+promised shut q = (q .0, q .1, λ e. absurd (not-open Closed refl e))
+promised (rising i s f) q = (q .0, q .1, λ e. absurd (not-open Opening refl e))
 promised (flowing i d) q = (q .0, q .1, λ e. (direction d, direction (flip d)))
-promised (ending i d) q = (q .0, q .1, λ e. absurd (closing-not-open e))
-promised (falling i e l) q = (q .0, q .1, λ e. absurd (closing-not-open e))
+promised (ending i d) q = (q .0, q .1, λ e. absurd (not-open Closing refl e))
+promised (falling i e l) q = (q .0, q .1, λ e. absurd (not-open Closing refl e))
 
 -- in no state with the invariant does a take answer numbering
 abbrev Refuses : Measures → State → End → Type 0
