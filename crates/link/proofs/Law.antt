@@ -23,7 +23,7 @@ use Rattle.link.specs.Calls.{takes-answer}
 use Rattle.link.specs.History.{Call, run, Account, account, no-tally}
 use Rattle.link.specs.Promise.{Promised, Kept, Law}
 use Rattle.link.proofs.Ends.{flip, direction}
-use Rattle.link.proofs.Phases.{Phase, shut, rising, flowing, ending, falling, Wholes, Good}
+use Rattle.link.proofs.Phases.{Phase, both-closed, opening, both-open, closing, half-closed, Wholes, Good}
 use Rattle.link.proofs.Takes.{Unrefused}
 use Rattle.link.proofs.PrimaryTakes.{primary-takes}
 use Rattle.link.proofs.SecondaryTakes.{secondary-takes}
@@ -35,11 +35,11 @@ not-open : (m : Mode) → is-open m ≡ false → m ≡ Open → ⊥
 not-open m closed e = both-ways (is-open m) closed (ap is-open e)
 
 promised : {g : Measures} {x : State} {y : Account} → Phase g x y → Wholes x y → Promised x y
-promised shut q = (q .0, q .1, λ e. absurd (not-open Closed refl e))
-promised (rising i s f) q = (q .0, q .1, λ e. absurd (not-open Opening refl e))
-promised (flowing i d) q = (q .0, q .1, λ e. (direction d, direction (flip d)))
-promised (ending i d) q = (q .0, q .1, λ e. absurd (not-open Closing refl e))
-promised (falling i e l) q = (q .0, q .1, λ e. absurd (not-open Closing refl e))
+promised both-closed q = (q .0, q .1, λ e. absurd (not-open Closed refl e))
+promised (opening i s f) q = (q .0, q .1, λ e. absurd (not-open Opening refl e))
+promised (both-open i d) q = (q .0, q .1, λ e. (direction d, direction (flip d)))
+promised (closing i d) q = (q .0, q .1, λ e. absurd (not-open Closing refl e))
+promised (half-closed i e l) q = (q .0, q .1, λ e. absurd (not-open Closing refl e))
 
 -- in no state with the invariant does a take answer numbering
 abbrev Refuses : Measures → State → End → Type 0
@@ -86,7 +86,7 @@ module _ (ls : Lists) (t : ℕ) (sound : made ls t .fault ≡ None) where
   start : Starts (ls .one) (ls .two)
   start =
       subst (λ one. Starts one (ls .two)) one-empty
-      (subst (λ two. Starts [] two) two-empty (shut, (record { whole = refl }, record { whole = refl })))
+      (subst (λ two. Starts [] two) two-empty (both-closed, (record { whole = refl }, record { whole = refl })))
 
   kept : (calls : List Call) → Kept (made ls t) calls
   kept calls =
