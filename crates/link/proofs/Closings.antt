@@ -8,7 +8,7 @@ use Rattle.frames.specs.declared.kind.Kind.the-variants.{I, Disc, Ua, Dm}
 use Rattle.frames.specs.Parts.{parts}
 use Rattle.lines.specs.Entries.{Entry, struck, frame}
 use Rattle.stations.specs.Station.{Block, status-by}
-use Rattle.stations.specs.Puts.{put-by}
+use Rattle.stations.specs.Puts.{put-by, plain}
 use Rattle.link.proofs.Thinning.{Thin, none, mute, same, hit, gone}
 use Rattle.link.proofs.Marks.{marked, Marks, blank, unmarked, no-mark}
 use Rattle.link.proofs.Flows.{Flow, done, skip, info, status}
@@ -28,16 +28,16 @@ ending-thin ending-disc (same none) = ending-disc
 ending-thin ending-disc (hit none) = ending-struck ending-none
 ending-thin ending-disc (gone none) = ending-none
 
-ending-push : (ns nr b : ℕ) (x : Block) {d : ℕ} {P : ℕ → Type 0} {es : List Entry} →
-    Ending es → Marks d P false es → Ending (es ++ (frame 0 (parts Disc ns nr b x) ∷ []))
-ending-push ns nr b x ending-none w = ending-disc
-ending-push ns nr b x (ending-struck h) (blank l w) = ending-struck (ending-push ns nr b x h w)
-ending-push ns nr b x ending-disc w = absurd (no-mark refl w)
+ending-push : {d : ℕ} {P : ℕ → Type 0} {es : List Entry} →
+    Ending es → Marks d P false es → Ending (es ++ (frame 0 (plain Disc) ∷ []))
+ending-push ending-none w = ending-disc
+ending-push (ending-struck h) (blank l w) = ending-struck (ending-push h w)
+ending-push ending-disc w = absurd (no-mark refl w)
 
-pub ending-put : (room : Bool) (ns nr b : ℕ) (x : Block) {d : ℕ} {P : ℕ → Type 0} {es : List Entry} →
-    Ending es → Marks d P false es → Ending (put-by room es (parts Disc ns nr b x))
-ending-put true ns nr b x h w = ending-push ns nr b x h w
-ending-put false ns nr b x h w = h
+pub ending-put : (room : Bool) {d : ℕ} {P : ℕ → Type 0} {es : List Entry} →
+    Ending es → Marks d P false es → Ending (put-by room es (plain Disc))
+ending-put true h w = ending-push h w
+ending-put false h w = h
 
 -- ---- way 2: the answer is last, and then way 1 is empty
 
@@ -46,7 +46,7 @@ abbrev pub closing-answer : Bool → Kind
 closing-answer true = Ua
 closing-answer false = Dm
 
-pub marked-answer : (up : Bool) (ns nr b : ℕ) (x : Block) → marked (parts (closing-answer up) ns nr b x) ≡ true
+marked-answer : (up : Bool) (ns nr b : ℕ) (x : Block) → marked (parts (closing-answer up) ns nr b x) ≡ true
 marked-answer true ns nr b x = refl
 marked-answer false ns nr b x = refl
 
@@ -59,7 +59,8 @@ pub data Last : List Entry → List Entry → Type 0 where
       Last one es → Last one (frame a (parts (status-by busy) ns nr b x) ∷ es)
   last-answer : {a ns nr b : ℕ} {x : Block} (up : Bool) → Last [] (frame a (parts (closing-answer up) ns nr b x) ∷ [])
 
-pub flow-last : {blocks : List Block} {hi m lo : ℕ} (one : List Entry) {es : List Entry} → Flow blocks hi m lo es → Last one es
+pub flow-last : {blocks : List Block} {hi m lo : ℕ} (one : List Entry) {es : List Entry} →
+    Flow blocks hi m lo es → Last one es
 flow-last one (done l h) = last-none
 flow-last one (skip f) = last-struck (flow-last one f)
 flow-last one (info c t f) = last-info (flow-last one f)
@@ -72,7 +73,8 @@ last-free fs (last-struck h) = last-struck (last-free fs h)
 last-free fs (last-info h) = last-info (last-free fs h)
 last-free fs (last-status w h) = last-status w (last-free fs h)
 
-pub last-quiet : (fs : List Entry) {one es : List Entry} {d : ℕ} {P : ℕ → Type 0} → Last one es → Marks d P false es → Last fs es
+pub last-quiet : (fs : List Entry) {one es : List Entry} {d : ℕ} {P : ℕ → Type 0} →
+    Last one es → Marks d P false es → Last fs es
 last-quiet fs last-none w = last-none
 last-quiet fs (last-struck h) (blank l w) = last-struck (last-quiet fs h w)
 last-quiet fs (last-info h) (unmarked m l w) = last-info (last-quiet fs h w)
@@ -101,14 +103,14 @@ last-thin-one t (last-status w h) = last-status w (last-thin-one t h)
 last-thin-one none (last-answer w) = last-answer w
 
 -- the answer goes out, or is lost
-last-push : (up : Bool) (ns nr b : ℕ) (x : Block) {e : Entry} {one es : List Entry} →
-    Last (e ∷ one) es → Last [] (es ++ (frame 0 (parts (closing-answer up) ns nr b x) ∷ []))
-last-push up ns nr b x last-none = last-answer up
-last-push up ns nr b x (last-struck h) = last-struck (last-push up ns nr b x h)
-last-push up ns nr b x (last-info h) = last-info (last-push up ns nr b x h)
-last-push up ns nr b x (last-status w h) = last-status w (last-push up ns nr b x h)
+last-push : (up : Bool) {e : Entry} {one es : List Entry} →
+    Last (e ∷ one) es → Last [] (es ++ (frame 0 (plain (closing-answer up)) ∷ []))
+last-push up last-none = last-answer up
+last-push up (last-struck h) = last-struck (last-push up h)
+last-push up (last-info h) = last-info (last-push up h)
+last-push up (last-status w h) = last-status w (last-push up h)
 
-pub last-put : (room up : Bool) (ns nr b : ℕ) (x : Block) {e : Entry} {one es : List Entry} →
-    Last (e ∷ one) es → Last [] (put-by room es (parts (closing-answer up) ns nr b x))
-last-put true up ns nr b x h = last-push up ns nr b x h
-last-put false up ns nr b x h = last-free [] h
+pub last-put : (room up : Bool) {e : Entry} {one es : List Entry} →
+    Last (e ∷ one) es → Last [] (put-by room es (plain (closing-answer up)))
+last-put true up h = last-push up h
+last-put false up h = last-free [] h

@@ -2,7 +2,7 @@
 use mathlib.Core.Path.{_≡_, refl}
 use mathlib.Core.List.{List, [], _∷_}
 use mathlib.Core.Bool.{Bool, true, false}
-use Prim.Native.Nat.{ℕ, _+_, _*_, _≤_, _<_}
+use Prim.Native.Nat.{ℕ, _+_, _*_, _≤_}
 use native.Mathlib.Omega.{arith}
 use lib.ListN.{length}
 use lib.Dec.{ltb, eqb}
@@ -29,7 +29,8 @@ No-age a = ⊥
 
 -- way 1 holds the request, or way 2 the answer, or neither does
 pub data Exchange (g : Measures) : Timer → List Entry → List Entry → Type 0 where
-  idle : {one two : List Entry} → Marks (g .d) No-age false one → Marks (g .d) No-age false two → Exchange g None one two
+  idle : {one two : List Entry} →
+      Marks (g .d) No-age false one → Marks (g .d) No-age false two → Exchange g None one two
   asked : {n : ℕ} {one two : List Entry} →
       Marks (g .d) (Request-age n) true one → Marks (g .d) No-age false two → Exchange g (Some n) one two
   answered : {n : ℕ} {one two : List Entry} →
@@ -98,7 +99,8 @@ module _ {g : Measures} where
   exchange-tick {n} (asked h j) =
       asked (marks-older (Request-age (n + 1)) (λ a e i. omega arith) h) (marks-older No-age (λ a n l. n) j)
   exchange-tick {n} (answered h j) =
-      answered (marks-older No-age (λ a n l. n) h) (marks-older (Answer-age (g .d) (n + 1)) (λ a e i. (omega arith, omega arith)) j)
+      answered (marks-older No-age (λ a n l. n) h)
+      (marks-older (Answer-age (g .d) (n + 1)) (λ a e i. (omega arith, omega arith)) j)
 
   pub exchange-out : {n : ℕ} {one two : List Entry} →
       2 * g .d + 1 ≤ g .t → g .t ≤ n + 1 → Exchange g (Some n) one two → Quiet g (older (g .d) one) (older (g .d) two)
@@ -107,22 +109,24 @@ module _ {g : Measures} where
   exchange-out {n} large out (answered h j) =
       (marks-older No-age (λ a n l. n) h, marks-out No-age true (λ a q i. omega arith) j)
 
-  -- ---- RR and RNR: refused or not, marked or not
-
-  -- the secondary takes one, and answers a poll
-  pub exchange-final : (refused : Bool) (v : Bool) (k : ℕ) (x : Station) {a : ℕ} {f : Parts} {t : Timer} {one two : List Entry} →
-      marked f ≡ v → Exchange g t (frame a f ∷ one) two → Exchange g t one (final-by refused v k x two)
-  exchange-final true v k x m h = exchange-one marks-tail h
+  -- the secondary takes RR or RNR, refused or not, and answers a poll
+  pub exchange-final : (refused poll : Bool) (k : ℕ) (x : Station) →
+      {a : ℕ} {f : Parts} {t : Timer} {one two : List Entry} →
+      marked f ≡ poll → Exchange g t (frame a f ∷ one) two → Exchange g t one (final-by refused poll k x two)
+  exchange-final true poll k x m h = exchange-one marks-tail h
   exchange-final false false k x m h = exchange-one marks-tail h
   exchange-final false true k x {two = two} m h =
       exchange-two (marks-again (x .busy) k x)
       (exchange-answer (ltb (length two) k) (status x) m
       (marked-status (eqb (length (x .waiting)) 7) 0 (x .vr) 1 []) h)
 
-  -- the primary takes one, and a final ends the exchange
-  pub exchange-resend : (refused : Bool) (v : Bool) (k : ℕ) (x : Station) (t : Timer) {a : ℕ} {f : Parts} {one two : List Entry} →
-      marked f ≡ v → Exchange g t one (frame a f ∷ two) → Exchange g (timer-by refused v t) (resend-by refused v t k x one) two
-  exchange-resend true v k x t m h = exchange-two marks-tail h
+  -- the primary takes RR or RNR, refused or not, and a final ends the exchange
+  pub exchange-resend : (refused final : Bool) (k : ℕ) (x : Station) (t : Timer) →
+      {a : ℕ} {f : Parts} {one two : List Entry} →
+      marked f ≡ final → Exchange g t one (frame a f ∷ two) →
+      Exchange g (timer-by refused final t) (resend-by refused final t k x one) two
+  exchange-resend true final k x t m h = exchange-two marks-tail h
   exchange-resend false false k x t m h = exchange-two marks-tail h
   exchange-resend false true k x None m h = exchange-two marks-tail h
-  exchange-resend false true k x (Some n) m h = exchange-one (marks-again (x .busy) k x) (exchange-none (exchange-done m h))
+  exchange-resend false true k x (Some n) m h =
+      exchange-one (marks-again (x .busy) k x) (exchange-none (exchange-done m h))

@@ -12,9 +12,9 @@ use Rattle.link.specs.State.{Measures, State, state}
 use Rattle.link.specs.Calls.{fetched-by}
 use Rattle.link.specs.History.{Tally, Account, account, fetch, note-fetch, fetches}
 use Rattle.link.specs.Promise.{Whole}
-use Rattle.link.proofs.Ends.{waiting-duplex, fetch-duplex, far-waiting-duplex, far-fetch-duplex}
-use Rattle.link.proofs.Openings.{newly-waiting, newly-fetched}
-use Rattle.link.proofs.Phases.{Phase, shut, rising, flowing, ending, falling, Wholes, Good, Then}
+use Rattle.link.proofs.Ends.{fetch-duplex, far-fetch-duplex}
+use Rattle.link.proofs.Openings.{newly-fetched}
+use Rattle.link.proofs.Phases.{Phase, both-closed, opening, both-open, closing, half-closed, Wholes, Good, Then}
 
 -- the block fetched leaves the queue
 whole-fetched : {x : Station} {y : Tally} (z : Block) (zs : List Block) →
@@ -27,32 +27,36 @@ unchanged : (x : Station) → x .waiting ≡ [] → x ≡ with-waiting x []
 unchanged x e = ap (with-waiting x) e
 
 module _ {g : Measures} where
-  primary-fetched : {one two : List Entry} {m : Mode} {t : Timer} {u : Bool} {p s : Station} {pt st : Tally} (zs : List Block) →
-      p .waiting ≡ zs → Phase g (state one two m t u p s) (account pt st) → Whole p pt × Whole s st →
-      Good g (state one two m t u (with-waiting p (drop 1 zs)) s) (note-fetch (fetched-by (oldest zs)) Primary (account pt st))
+  primary-fetched : {one two : List Entry} {m : Mode} {t : Timer} {u : Bool} {p s : Station} {pt st : Tally} →
+      (zs : List Block) → p .waiting ≡ zs →
+      Phase g (state one two m t u p s) (account pt st) → Whole p pt × Whole s st →
+      Good g (state one two m t u (with-waiting p (drop 1 zs)) s)
+      (note-fetch (fetched-by (oldest zs)) Primary (account pt st))
   primary-fetched {one} {two} {m} {t} {u} {p} {s} {pt} {st} [] e h q =
       subst (λ x. Good g (state one two m t u x s) (account pt st)) (unchanged p e) (h, q)
-  primary-fetched (z ∷ zs) e shut q = (shut, (whole-fetched z zs e (q .0), q .1))
-  primary-fetched (z ∷ zs) e (rising i s f) q = (rising i s f, (whole-fetched z zs e (q .0), q .1))
-  primary-fetched (z ∷ zs) e (flowing i d) q =
-      (flowing i (waiting-duplex zs (fetch-duplex z d)), (whole-fetched z zs e (q .0), q .1))
-  primary-fetched (z ∷ zs) e (ending i d) q =
-      (ending i (far-waiting-duplex zs (far-fetch-duplex z d)), (whole-fetched z zs e (q .0), q .1))
-  primary-fetched (z ∷ zs) e (falling i h l) q = (falling i h l, (whole-fetched z zs e (q .0), q .1))
+  primary-fetched (z ∷ zs) e both-closed q = (both-closed, (whole-fetched z zs e (q .0), q .1))
+  primary-fetched (z ∷ zs) e (opening i s f) q = (opening i s f, (whole-fetched z zs e (q .0), q .1))
+  primary-fetched (z ∷ zs) e (both-open i d) q =
+      (both-open i (fetch-duplex z zs d), (whole-fetched z zs e (q .0), q .1))
+  primary-fetched (z ∷ zs) e (closing i d) q =
+      (closing i (far-fetch-duplex z zs d), (whole-fetched z zs e (q .0), q .1))
+  primary-fetched (z ∷ zs) e (half-closed i h l) q = (half-closed i h l, (whole-fetched z zs e (q .0), q .1))
 
-  secondary-fetched : {one two : List Entry} {m : Mode} {t : Timer} {u : Bool} {p s : Station} {pt st : Tally} (zs : List Block) →
-      s .waiting ≡ zs → Phase g (state one two m t u p s) (account pt st) → Whole p pt × Whole s st →
-      Good g (state one two m t u p (with-waiting s (drop 1 zs))) (note-fetch (fetched-by (oldest zs)) Secondary (account pt st))
+  secondary-fetched : {one two : List Entry} {m : Mode} {t : Timer} {u : Bool} {p s : Station} {pt st : Tally} →
+      (zs : List Block) → s .waiting ≡ zs →
+      Phase g (state one two m t u p s) (account pt st) → Whole p pt × Whole s st →
+      Good g (state one two m t u p (with-waiting s (drop 1 zs)))
+      (note-fetch (fetched-by (oldest zs)) Secondary (account pt st))
   secondary-fetched {one} {two} {m} {t} {u} {p} {s} {pt} {st} [] e h q =
       subst (λ x. Good g (state one two m t u p x) (account pt st)) (unchanged s e) (h, q)
-  secondary-fetched (z ∷ zs) e shut q = (shut, (q .0, whole-fetched z zs e (q .1)))
-  secondary-fetched (z ∷ zs) e (rising i s f) q =
-      (rising i s (newly-waiting zs (newly-fetched z f)), (q .0, whole-fetched z zs e (q .1)))
-  secondary-fetched (z ∷ zs) e (flowing i d) q =
-      (flowing i (far-waiting-duplex zs (far-fetch-duplex z d)), (q .0, whole-fetched z zs e (q .1)))
-  secondary-fetched (z ∷ zs) e (ending i d) q =
-      (ending i (waiting-duplex zs (fetch-duplex z d)), (q .0, whole-fetched z zs e (q .1)))
-  secondary-fetched (z ∷ zs) e (falling i h l) q = (falling i h l, (q .0, whole-fetched z zs e (q .1)))
+  secondary-fetched (z ∷ zs) e both-closed q = (both-closed, (q .0, whole-fetched z zs e (q .1)))
+  secondary-fetched (z ∷ zs) e (opening i s f) q =
+      (opening i s (newly-fetched z zs f), (q .0, whole-fetched z zs e (q .1)))
+  secondary-fetched (z ∷ zs) e (both-open i d) q =
+      (both-open i (far-fetch-duplex z zs d), (q .0, whole-fetched z zs e (q .1)))
+  secondary-fetched (z ∷ zs) e (closing i d) q =
+      (closing i (fetch-duplex z zs d), (q .0, whole-fetched z zs e (q .1)))
+  secondary-fetched (z ∷ zs) e (half-closed i h l) q = (half-closed i h l, (q .0, whole-fetched z zs e (q .1)))
 
   pub keep-primary-fetches : (x : State) (y : Account) → Phase g x y → Wholes x y → Then (fetches Primary) g x y
   keep-primary-fetches (state one two m t u p s) (account pt st) h q = primary-fetched (p .waiting) refl h q

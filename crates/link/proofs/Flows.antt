@@ -11,7 +11,7 @@ use Rattle.frames.specs.declared.kind.Kind.the-variants.{I, Disc}
 use Rattle.frames.specs.Parts.{parts}
 use Rattle.lines.specs.Entries.{Entry, struck, frame}
 use Rattle.stations.specs.Station.{Block, Station, status-by}
-use Rattle.stations.specs.Puts.{put-by, inform, again-from}
+use Rattle.stations.specs.Puts.{put-by, plain, again-from}
 use Rattle.link.proofs.Thinning.{Thin, none, mute, same, hit, gone}
 use Rattle.link.proofs.Marks.{Marks, blank, unmarked, no-mark}
 
@@ -28,11 +28,12 @@ pub record Carries (blocks : List Block) (ns m n : ℕ) (x : Block) : Type 0 whe
   pub near : m ≤ n + 7
 
 -- blocks: what the sender has accepted; hi: how many it has taken in; m: how many the receiver may have taken in when
--- the entry comes to the front; lo: how many were then acknowledged to the receiver; where the index is true, a DISC may
--- stand last
+-- the entry comes to the front; lo: how many were then acknowledged to the receiver; where the index is true, a DISC
+-- may stand last
 pub data Stream (blocks : List Block) (hi : ℕ) : Bool → ℕ → ℕ → List Entry → Type 0 where
   done : {c : Bool} {m lo : ℕ} → lo ≤ hi → m ≤ length blocks → Stream blocks hi c m lo []
-  skip : {c : Bool} {m lo a : ℕ} {es : List Entry} → Stream blocks hi c m lo es → Stream blocks hi c m lo (struck a ∷ es)
+  skip : {c : Bool} {m lo a : ℕ} {es : List Entry} →
+      Stream blocks hi c m lo es → Stream blocks hi c m lo (struck a ∷ es)
   info : {c : Bool} {m lo a ns nr b n v : ℕ} {x : Block} {es : List Entry} →
       Carries blocks ns m n x → Tells nr lo v → Stream blocks hi c (max m (n + 1)) v es →
       Stream blocks hi c m lo (frame a (parts I ns nr b x) ∷ es)
@@ -50,10 +51,12 @@ Flow blocks hi m lo es = Stream blocks hi false m lo es
 within : {X : Type 0} (n : ℕ) (xs : List X) (z : X) (zs : List X) → z ∷ zs ≡ drop n xs → n < length xs
 within n xs z zs e = let l = ap length e in omega (arith, length-drop n xs, l)
 
-carries-less : {blocks : List Block} {ns m n : ℕ} {x : Block} (m′ : ℕ) → m′ ≤ m → Carries blocks ns m n x → Carries blocks ns m′ n x
+carries-less : {blocks : List Block} {ns m n : ℕ} {x : Block} (m′ : ℕ) →
+    m′ ≤ m → Carries blocks ns m n x → Carries blocks ns m′ n x
 carries-less m′ l c = record { number = c .number; accepted = c .accepted; block = c .block; near = omega arith }
 
-carries-push : {blocks : List Block} {ns m n : ℕ} {x : Block} (z : Block) → Carries blocks ns m n x → Carries (blocks ++ (z ∷ [])) ns m n x
+carries-push : {blocks : List Block} {ns m n : ℕ} {x : Block} (z : Block) →
+    Carries blocks ns m n x → Carries (blocks ++ (z ∷ [])) ns m n x
 carries-push {blocks} {n = n} z c =
     record {
       number = c .number;
@@ -98,7 +101,8 @@ module _ {blocks : List Block} {hi : ℕ} where
   flow-more hi′ a (status w t f) = status w t (flow-more hi′ a f)
 
   -- the sender has accepted one more
-  pub flow-accept : {m lo : ℕ} {es : List Entry} (z : Block) → Flow blocks hi m lo es → Flow (blocks ++ (z ∷ [])) hi m lo es
+  pub flow-accept : {m lo : ℕ} {es : List Entry} (z : Block) →
+      Flow blocks hi m lo es → Flow (blocks ++ (z ∷ [])) hi m lo es
   flow-accept z (done l h) = done l (omega (arith, length-push blocks z))
   flow-accept z (skip f) = skip (flow-accept z f)
   flow-accept z (info c t f) = info (carries-push z c) t (flow-accept z f)
@@ -122,7 +126,8 @@ module _ {blocks : List Block} {hi : ℕ} where
 
   -- the sender puts its status
   flow-status : {m lo : ℕ} {es : List Entry} (busy : Bool) (ns nr b : ℕ) (x : Block) →
-      hi % 8 ≡ nr → Flow blocks hi m lo es → Flow blocks hi m lo (es ++ (frame 0 (parts (status-by busy) ns nr b x) ∷ []))
+      hi % 8 ≡ nr → Flow blocks hi m lo es →
+      Flow blocks hi m lo (es ++ (frame 0 (parts (status-by busy) ns nr b x) ∷ []))
   flow-status busy ns nr b x e (done l h) = status busy (record { number = e; low = l }) (done (omega arith) h)
   flow-status busy ns nr b x e (skip f) = skip (flow-status busy ns nr b x e f)
   flow-status busy ns nr b x e (info d t f) = info d t (flow-status busy ns nr b x e f)
@@ -148,7 +153,8 @@ module _ {blocks : List Block} {hi : ℕ} where
       (flow-put-info (ltb (length es) k) ns (x .vr) 0 n z e c f)
 
   -- a flow that is thinned is a flow
-  pub flow-thin : {es fs : List Entry} → Thin es fs → {c : Bool} {m lo : ℕ} → Stream blocks hi c m lo es → Stream blocks hi c m lo fs
+  pub flow-thin : {es fs : List Entry} → Thin es fs →
+      {c : Bool} {m lo : ℕ} → Stream blocks hi c m lo es → Stream blocks hi c m lo fs
   flow-thin none (done l h) = done l h
   flow-thin (mute t) (skip f) = skip (flow-thin t f)
   flow-thin (same t) (info c s f) = info c s (flow-thin t f)
@@ -163,14 +169,13 @@ module _ {blocks : List Block} {hi : ℕ} where
   flow-thin (gone none) (disc l h) = done l h
 
   -- a DISC may go out where none is on its way
-  flow-disc : (ns nr b : ℕ) (x : Block) {d : ℕ} {P : ℕ → Type 0} {c : Bool} {m lo : ℕ} {es : List Entry} →
-      Stream blocks hi c m lo es → Marks d P false es →
-      Stream blocks hi true m lo (es ++ (frame 0 (parts Disc ns nr b x) ∷ []))
-  flow-disc ns nr b x (done l h) w = disc l h
-  flow-disc ns nr b x (skip f) (blank l w) = skip (flow-disc ns nr b x f w)
-  flow-disc ns nr b x (info c t f) (unmarked y z w) = info c t (flow-disc ns nr b x f w)
-  flow-disc ns nr b x (status u t f) (unmarked y z w) = status u t (flow-disc ns nr b x f w)
-  flow-disc ns nr b x (disc l h) w = absurd (no-mark refl w)
+  flow-disc : {d : ℕ} {P : ℕ → Type 0} {c : Bool} {m lo : ℕ} {es : List Entry} →
+      Stream blocks hi c m lo es → Marks d P false es → Stream blocks hi true m lo (es ++ (frame 0 (plain Disc) ∷ []))
+  flow-disc (done l h) w = disc l h
+  flow-disc (skip f) (blank l w) = skip (flow-disc f w)
+  flow-disc (info c t f) (unmarked y z w) = info c t (flow-disc f w)
+  flow-disc (status u t f) (unmarked y z w) = status u t (flow-disc f w)
+  flow-disc (disc l h) w = absurd (no-mark refl w)
 
   flow-free : {d : ℕ} {P : ℕ → Type 0} {c : Bool} {m lo : ℕ} {es : List Entry} →
       Stream blocks hi c m lo es → Marks d P false es → Stream blocks hi true m lo es
@@ -180,7 +185,7 @@ module _ {blocks : List Block} {hi : ℕ} where
   flow-free (status u t f) (unmarked y z w) = status u t (flow-free f w)
   flow-free (disc l h) w = absurd (no-mark refl w)
 
-  pub flow-put-disc : (room : Bool) (ns nr b : ℕ) (x : Block) {d : ℕ} {P : ℕ → Type 0} {c : Bool} {m lo : ℕ} {es : List Entry} →
-      Stream blocks hi c m lo es → Marks d P false es → Stream blocks hi true m lo (put-by room es (parts Disc ns nr b x))
-  flow-put-disc true ns nr b x f w = flow-disc ns nr b x f w
-  flow-put-disc false ns nr b x f w = flow-free f w
+  pub flow-put-disc : {d : ℕ} {P : ℕ → Type 0} {c : Bool} {m lo : ℕ} {es : List Entry} (room : Bool) →
+      Stream blocks hi c m lo es → Marks d P false es → Stream blocks hi true m lo (put-by room es (plain Disc))
+  flow-put-disc true f w = flow-disc f w
+  flow-put-disc false f w = flow-free f w

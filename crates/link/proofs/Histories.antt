@@ -1,7 +1,7 @@
 -- The invariant holds after every list of calls on a sound link.
 use mathlib.Core.Path.{_≡_, refl, sym, ap, subst, _∙_}
 use mathlib.Core.List.{List, [], _∷_}
-use Prim.Native.Nat.{ℕ, _+_, _*_, _≤_}
+use Prim.Native.Nat.{_+_, _*_, _≤_}
 use Rattle.std.specs.declared.option.Option.the-variants.{None}
 use Rattle.link.specs.declared.end.End.the-variants.{Primary, Secondary}
 use Rattle.link.specs.State.{Measures, State, Model}
@@ -11,7 +11,6 @@ use Rattle.link.proofs.Phases.{Good, Then}
 use Rattle.link.proofs.Requests.{keep-opens, keep-closes, keep-polls}
 use Rattle.link.proofs.Ticks.{keep-ticks}
 use Rattle.link.proofs.Sends.{keep-primary-sends, keep-secondary-sends}
-use Rattle.link.proofs.Takes.{Taking}
 use Rattle.link.proofs.PrimaryTakes.{primary-takes}
 use Rattle.link.proofs.SecondaryTakes.{secondary-takes}
 use Rattle.link.proofs.Fetches.{keep-primary-fetches, keep-secondary-fetches}
@@ -29,7 +28,7 @@ keep-call g large (takes Primary) x y h = primary-takes (h .0) (h .1) .after
 keep-call g large (takes Secondary) x y h = secondary-takes (h .0) (h .1) .after
 keep-call g large (fetches Primary) x y h = keep-primary-fetches x y (h .0) (h .1)
 keep-call g large (fetches Secondary) x y h = keep-secondary-fetches x y (h .0) (h .1)
-keep-call g large (strikes w place start mask) x y h = keep-strikes place start mask w (h .0) (h .1)
+keep-call g large (strikes w place start mask) x y h = keep-strikes g place start mask w (h .0) (h .1)
 
 -- calls keep a link's measures
 pub run-measures : (l : Model) (calls : List Call) → run l calls .measures ≡ l .measures

@@ -10,12 +10,12 @@ use Rattle.frames.specs.declared.kind.Kind.the-variants.{I, Sarm, Ua}
 use Rattle.frames.specs.Parts.{parts}
 use Rattle.lines.specs.Entries.{Entry, struck, frame}
 use Rattle.stations.specs.Station.{Block, Station, outstanding, sent, status-by, with-waiting}
-use Rattle.stations.specs.Puts.{put, put-by, inform}
+use Rattle.stations.specs.Puts.{put, put-by, plain, inform}
 use Rattle.link.specs.History.{Tally, accept, fetch}
 use Rattle.link.proofs.Thinning.{Thin, none, mute, same, hit, gone}
 use Rattle.link.proofs.Marks.{Marks, blank, unmarked, no-mark}
 use Rattle.link.proofs.Flows.{Carries, Flow, done, skip, info, status, flow-thin, flow-accept, flow-info}
-use Rattle.link.proofs.Tallies.{Sound, sound-sent, carries-sent, sound-waiting, sound-fetched}
+use Rattle.link.proofs.Tallies.{Sound, sound-sent, carries-sent, sound-fetched}
 
 -- ---- way 1: SARM or struck
 
@@ -32,14 +32,14 @@ sarms-thin (hit t) (sarm-next h) = sarm-struck (sarms-thin t h)
 sarms-thin (gone t) (sarm-struck h) = sarms-thin t h
 sarms-thin (gone t) (sarm-next h) = sarms-thin t h
 
-sarms-push : (ns nr b : ℕ) (x : Block) {es : List Entry} → Sarms es → Sarms (es ++ (frame 0 (parts Sarm ns nr b x) ∷ []))
-sarms-push ns nr b x sarm-none = sarm-next sarm-none
-sarms-push ns nr b x (sarm-struck h) = sarm-struck (sarms-push ns nr b x h)
-sarms-push ns nr b x (sarm-next h) = sarm-next (sarms-push ns nr b x h)
+sarms-push : {es : List Entry} → Sarms es → Sarms (es ++ (frame 0 (plain Sarm) ∷ []))
+sarms-push sarm-none = sarm-next sarm-none
+sarms-push (sarm-struck h) = sarm-struck (sarms-push h)
+sarms-push (sarm-next h) = sarm-next (sarms-push h)
 
-pub sarms-put : (room : Bool) (ns nr b : ℕ) (x : Block) {es : List Entry} → Sarms es → Sarms (put-by room es (parts Sarm ns nr b x))
-sarms-put true ns nr b x h = sarms-push ns nr b x h
-sarms-put false ns nr b x h = h
+pub sarms-put : (room : Bool) {es : List Entry} → Sarms es → Sarms (put-by room es (plain Sarm))
+sarms-put true h = sarms-push h
+sarms-put false h = h
 
 -- with no SARM left it is a way of a new connection
 pub sarms-flow : (blocks : List Block) (hi : ℕ) {d : ℕ} {P : ℕ → Type 0} {es : List Entry} →
@@ -90,18 +90,18 @@ module _ {blocks : List Block} where
   behind-free blocks′ (behind-status v h) (unmarked m l w) = behind-status v (behind-free blocks′ h w)
   behind-free blocks′ (behind-ua f) w = absurd (no-mark refl w)
 
-  behind-push-ua : (ns nr b : ℕ) (x : Block) {d : ℕ} {P : ℕ → Type 0} {es : List Entry} →
-      Behind blocks es → Marks d P false es → Behind blocks (es ++ (frame 0 (parts Ua ns nr b x) ∷ []))
-  behind-push-ua ns nr b x behind-none w = behind-ua (done (omega arith) (omega arith))
-  behind-push-ua ns nr b x (behind-struck h) (blank l w) = behind-struck (behind-push-ua ns nr b x h w)
-  behind-push-ua ns nr b x (behind-info h) (unmarked m l w) = behind-info (behind-push-ua ns nr b x h w)
-  behind-push-ua ns nr b x (behind-status v h) (unmarked m l w) = behind-status v (behind-push-ua ns nr b x h w)
-  behind-push-ua ns nr b x (behind-ua f) w = absurd (no-mark refl w)
+  behind-push-ua : {d : ℕ} {P : ℕ → Type 0} {es : List Entry} →
+      Behind blocks es → Marks d P false es → Behind blocks (es ++ (frame 0 (plain Ua) ∷ []))
+  behind-push-ua behind-none w = behind-ua (done (omega arith) (omega arith))
+  behind-push-ua (behind-struck h) (blank l w) = behind-struck (behind-push-ua h w)
+  behind-push-ua (behind-info h) (unmarked m l w) = behind-info (behind-push-ua h w)
+  behind-push-ua (behind-status v h) (unmarked m l w) = behind-status v (behind-push-ua h w)
+  behind-push-ua (behind-ua f) w = absurd (no-mark refl w)
 
-  pub behind-put-ua : (room : Bool) (ns nr b : ℕ) (x : Block) {d : ℕ} {P : ℕ → Type 0} {es : List Entry} →
-      Behind blocks es → Marks d P false es → Behind blocks (put-by room es (parts Ua ns nr b x))
-  behind-put-ua true ns nr b x h w = behind-push-ua ns nr b x h w
-  behind-put-ua false ns nr b x h w = h
+  pub behind-put-ua : (room : Bool) {d : ℕ} {P : ℕ → Type 0} {es : List Entry} →
+      Behind blocks es → Marks d P false es → Behind blocks (put-by room es (plain Ua))
+  behind-put-ua true h w = behind-push-ua h w
+  behind-put-ua false h w = h
 
   behind-accept : (z : Block) {es : List Entry} → Behind blocks es → Behind (blocks ++ (z ∷ [])) es
   behind-accept z behind-none = behind-none
@@ -111,7 +111,8 @@ module _ {blocks : List Block} where
   behind-accept z (behind-ua f) = behind-ua (flow-accept z f)
 
   behind-push-info : (ns nr b n : ℕ) (x : Block) {es : List Entry} →
-      0 ≡ nr → Carries blocks ns (length blocks) n x → Behind blocks es → Behind blocks (es ++ (frame 0 (parts I ns nr b x) ∷ []))
+      0 ≡ nr → Carries blocks ns (length blocks) n x → Behind blocks es →
+      Behind blocks (es ++ (frame 0 (parts I ns nr b x) ∷ []))
   behind-push-info ns nr b n x e c behind-none = behind-info behind-none
   behind-push-info ns nr b n x e c (behind-struck h) = behind-struck (behind-push-info ns nr b n x e c h)
   behind-push-info ns nr b n x e c (behind-info h) = behind-info (behind-push-info ns nr b n x e c h)
@@ -119,7 +120,8 @@ module _ {blocks : List Block} where
   behind-push-info ns nr b n x e c (behind-ua f) = behind-ua (flow-info ns nr b n x e c f)
 
   behind-put-info : (room : Bool) (ns nr b n : ℕ) (x : Block) {es : List Entry} →
-      0 ≡ nr → Carries blocks ns (length blocks) n x → Behind blocks es → Behind blocks (put-by room es (parts I ns nr b x))
+      0 ≡ nr → Carries blocks ns (length blocks) n x → Behind blocks es →
+      Behind blocks (put-by room es (parts I ns nr b x))
   behind-put-info true ns nr b n x e c h = behind-push-info ns nr b n x e c h
   behind-put-info false ns nr b n x e c h = h
 
@@ -130,31 +132,28 @@ pub data Newly : Bool → List Entry → Station → Tally → Type 0 where
   just-open : {two : List Entry} {s : Station} {st : Tally} →
       Sound s st → st .acknowledged ≡ 0 → st .taken ≡ [] → Behind (st .accepted) two → Newly true two s st
 
-pub newly-thin : {u : Bool} {two fs : List Entry} {s : Station} {st : Tally} → Thin two fs → Newly u two s st → Newly u fs s st
+pub newly-thin : {u : Bool} {two es : List Entry} {s : Station} {st : Tally} →
+    Thin two es → Newly u two s st → Newly u es s st
 newly-thin none still-closed = still-closed
-newly-thin t (just-open sound none-acknowledged none-taken b) = just-open sound none-acknowledged none-taken (behind-thin t b)
+newly-thin t (just-open sound a r b) = just-open sound a r (behind-thin t b)
 
-pub newly-behind : (blocks : List Block) {d : ℕ} {P : ℕ → Type 0} {u : Bool} {two : List Entry} {s : Station} {st : Tally} →
+pub newly-behind : (blocks : List Block) {d : ℕ} {P : ℕ → Type 0} →
+    {u : Bool} {two : List Entry} {s : Station} {st : Tally} →
     Newly u two s st → Marks d P false two → Behind blocks two
 newly-behind blocks still-closed w = behind-none
-newly-behind blocks (just-open sound none-acknowledged none-taken b) w = behind-free blocks b w
+newly-behind blocks (just-open sound a r b) w = behind-free blocks b w
 
 -- it may send before the primary is open
 pub newly-sent : {two : List Entry} {s : Station} {st : Tally} (k : ℕ) (z : Block) → outstanding s < 7 →
     Sound s st → st .acknowledged ≡ 0 → st .taken ≡ [] → Behind (st .accepted) two →
     Newly true (put k two (inform s (s .vs) z)) (sent s z) (accept z st)
-newly-sent {two} {s} {st} k z free sound none-acknowledged none-taken b =
-    just-open (sound-sent z sound free) none-acknowledged none-taken
+newly-sent {two} {s} {st} k z free sound a r b =
+    just-open (sound-sent z sound free) a r
     (behind-put-info (ltb (length two) k) (s .vs) (s .vr) 0 (length (st .accepted)) z
-    (sym (sound .vr-is ∙ ap (λ w. length w % 8) none-taken)) (carries-sent z sound free) (behind-accept z b))
+    (sym (sound .vr-is ∙ ap (λ w. length w % 8) r)) (carries-sent z sound free) (behind-accept z b))
 
--- and blocks of an earlier connection may be fetched from it
-pub newly-waiting : {u : Bool} {two : List Entry} {s : Station} {st : Tally} (zs : List Block) →
-    Newly u two s st → Newly u two (with-waiting s zs) st
-newly-waiting zs still-closed = still-closed
-newly-waiting zs (just-open sound none-acknowledged none-taken b) = just-open (sound-waiting zs sound) none-acknowledged none-taken b
-
-pub newly-fetched : {u : Bool} {two : List Entry} {s : Station} {st : Tally} (z : Block) →
-    Newly u two s st → Newly u two s (fetch z st)
-newly-fetched z still-closed = still-closed
-newly-fetched z (just-open sound none-acknowledged none-taken b) = just-open (sound-fetched z sound) none-acknowledged none-taken b
+-- and a block of an earlier connection may be fetched from it
+pub newly-fetched : {u : Bool} {two : List Entry} {s : Station} {st : Tally} (z : Block) (zs : List Block) →
+    Newly u two s st → Newly u two (with-waiting s zs) (fetch z st)
+newly-fetched z zs still-closed = still-closed
+newly-fetched z zs (just-open sound a r b) = just-open (sound-fetched z zs sound) a r b

@@ -15,20 +15,19 @@ use Rattle.link.proofs.Ends.{Duplex}
 use Rattle.link.proofs.Openings.{Sarms, Newly}
 use Rattle.link.proofs.Closings.{Ending, Last}
 
--- shut: both ends closed; rising: the primary opens; flowing: both are open; ending: the primary closes, the secondary is
--- open; falling: the primary closes, the secondary is closed
+-- the ends' modes; where the primary is closing, the secondary may be open still (closing) or closed (half-closed)
 pub data Phase (g : Measures) : State → Account → Type 0 where
-  shut : {p s : Station} {pt st : Tally} → Phase g (state [] [] Closed None false p s) (account pt st)
-  rising : {n : ℕ} {one two : List Entry} {u : Bool} {p s : Station} {pt st : Tally} →
+  both-closed : {p s : Station} {pt st : Tally} → Phase g (state [] [] Closed None false p s) (account pt st)
+  opening : {n : ℕ} {one two : List Entry} {u : Bool} {p s : Station} {pt st : Tally} →
       Exchange g (Some n) one two → Sarms one → Newly u two s st →
       Phase g (state one two Opening (Some n) u p s) (account pt st)
-  flowing : {t : Timer} {one two : List Entry} {p s : Station} {pt st : Tally} →
+  both-open : {t : Timer} {one two : List Entry} {p s : Station} {pt st : Tally} →
       Exchange g t one two → Duplex false p pt s st one two →
       Phase g (state one two Open t true p s) (account pt st)
-  ending : {n : ℕ} {one two : List Entry} {p s : Station} {pt st : Tally} →
+  closing : {n : ℕ} {one two : List Entry} {p s : Station} {pt st : Tally} →
       Exchange g (Some n) one two → Duplex true s st p pt two one →
       Phase g (state one two Closing (Some n) true p s) (account pt st)
-  falling : {n : ℕ} {one two : List Entry} {p s : Station} {pt st : Tally} →
+  half-closed : {n : ℕ} {one two : List Entry} {p s : Station} {pt st : Tally} →
       Exchange g (Some n) one two → Ending one → Last one two →
       Phase g (state one two Closing (Some n) false p s) (account pt st)
 

@@ -12,35 +12,35 @@ use Rattle.link.proofs.Marks.{marked-status, empty}
 use Rattle.link.proofs.Exchange.{quiet, exchange-ask}
 use Rattle.link.proofs.Ends.{flip, status-duplex, disc-duplex}
 use Rattle.link.proofs.Openings.{sarm-none, sarms-put, still-closed}
-use Rattle.link.proofs.Phases.{Phase, shut, rising, flowing, ending, falling, Wholes, Then}
+use Rattle.link.proofs.Phases.{Phase, both-closed, opening, both-open, closing, half-closed, Wholes, Then}
 
 module _ {g : Measures} where
   pub keep-opens : {x : State} {y : Account} → Phase g x y → Wholes x y → Then opens g x y
-  keep-opens shut q =
+  keep-opens both-closed q =
       let room = ltb 0 (g .k) in
-      (rising (exchange-ask room (plain Sarm) refl (empty, empty)) (sarms-put room 0 0 0 [] sarm-none) still-closed, q)
-  keep-opens (rising i s f) q = (rising i s f, q)
-  keep-opens (flowing i d) q = (flowing i d, q)
-  keep-opens (ending i d) q = (ending i d, q)
-  keep-opens (falling i e l) q = (falling i e l, q)
+      (opening (exchange-ask room (plain Sarm) refl (empty, empty)) (sarms-put room sarm-none) still-closed, q)
+  keep-opens (opening i s f) q = (opening i s f, q)
+  keep-opens (both-open i d) q = (both-open i d, q)
+  keep-opens (closing i d) q = (closing i d, q)
+  keep-opens (half-closed i e l) q = (half-closed i e l, q)
 
   pub keep-closes : {x : State} {y : Account} → Phase g x y → Wholes x y → Then closes g x y
-  keep-closes shut q = (shut, q)
-  keep-closes (rising i s f) q = (rising i s f, q)
-  keep-closes (flowing {t = None} {one = one} i d) q =
+  keep-closes both-closed q = (both-closed, q)
+  keep-closes (opening i s f) q = (opening i s f, q)
+  keep-closes (both-open {t = None} {one = one} i d) q =
       let w = quiet i in
       let room = ltb (length one) (g .k) in
-      (ending (exchange-ask room (plain Disc) refl w) (disc-duplex room 0 0 0 [] (flip d) (w .0)), q)
-  keep-closes (flowing {t = Some n} i d) q = (flowing i d, q)
-  keep-closes (ending i d) q = (ending i d, q)
-  keep-closes (falling i e l) q = (falling i e l, q)
+      (closing (exchange-ask room (plain Disc) refl w) (disc-duplex room (flip d) (w .0)), q)
+  keep-closes (both-open {t = Some n} i d) q = (both-open i d, q)
+  keep-closes (closing i d) q = (closing i d, q)
+  keep-closes (half-closed i e l) q = (half-closed i e l, q)
 
   pub keep-polls : {x : State} {y : Account} → Phase g x y → Wholes x y → Then polls g x y
-  keep-polls shut q = (shut, q)
-  keep-polls (rising i s f) q = (rising i s f, q)
-  keep-polls (flowing {t = None} {one = one} {p = p} i d) q =
+  keep-polls both-closed q = (both-closed, q)
+  keep-polls (opening i s f) q = (opening i s f, q)
+  keep-polls (both-open {t = None} {one = one} {p = p} i d) q =
       let m = marked-status (eqb (length (p .waiting)) 7) 0 (p .vr) 1 [] in
-      (flowing (exchange-ask (ltb (length one) (g .k)) (status p) m (quiet i)) (status-duplex (g .k) d), q)
-  keep-polls (flowing {t = Some n} i d) q = (flowing i d, q)
-  keep-polls (ending i d) q = (ending i d, q)
-  keep-polls (falling i e l) q = (falling i e l, q)
+      (both-open (exchange-ask (ltb (length one) (g .k)) (status p) m (quiet i)) (status-duplex (g .k) d), q)
+  keep-polls (both-open {t = Some n} i d) q = (both-open i d, q)
+  keep-polls (closing i d) q = (closing i d, q)
+  keep-polls (half-closed i e l) q = (half-closed i e l, q)

@@ -1,8 +1,8 @@
 -- What a take answers and notes on a link with the invariant: no refusal of the station, and what the frame told.
-use mathlib.Core.Path.{_≡_, refl, sym, ap, subst, _∙_}
-use mathlib.Core.List.{List, [], _∷_, _++_, append-assoc}
+use mathlib.Core.Path.{_≡_, sym, ap, subst, _∙_}
+use mathlib.Core.List.{[], _∷_, _++_, append-assoc}
 use mathlib.Core.Bool.{Bool, true, false}
-use Prim.Native.Nat.{ℕ, _+_}
+use Prim.Native.Nat.{ℕ}
 use native.Mathlib.Nat.{add-zero}
 use Rattle.std.specs.declared.option.Option.the-variants.{Some}
 use Rattle.std.specs.declared.result.Result.{Result}
@@ -46,18 +46,21 @@ answered c h = record { counts = c; acknowledged = h .acknowledged; taken = some
 abbrev answered-by : Bool → Counts → Heard → Result Taken LinkRefusal
 answered-by r c h = taken-by r c (h .acknowledged) (some (h .taken)) false
 
+abbrev noted : End → Parts → Taken → State → Account → Account
+noted e f a next y = at-end e (note-taken f a (opening e f a next)) y
+
 -- a take of a frame that the number rule does not refuse
 pub heard : {g : Measures} {e : End} {x : State} {y : Account} (f : Parts) (c : Counts) (h : Heard) →
     removed e x ≡ Some f → takes-answer g e x ≡ answered-by (h .refused) c h → h .refused ≡ false →
-    Good g (takes-leaves g e x) (at-end e (note-taken f (answered c h) (opening e f (answered c h) (takes-leaves g e x))) y) →
-    Taking g e x y
+    Good g (takes-leaves g e x) (noted e f (answered c h) (takes-leaves g e x) y) → Taking g e x y
 heard {g} {e} {x} {y} f c h front answer ok good =
+    let next : State = takes-leaves g e x in
     let is : takes-answer g e x ≡ Ok (answered c h) = answer ∙ ap (λ r. answered-by r c h) ok in
     record {
       unrefused = subst Unrefused (sym is) tt;
       after =
-          subst (λ o. Good g (takes-leaves g e x) (note-take o (takes-answer g e x) e (takes-leaves g e x) y)) (sym front)
-          (subst (λ a. Good g (takes-leaves g e x) (note-take (Some f) a e (takes-leaves g e x) y)) (sym is) good);
+          subst (λ o. Good g next (note-take o (takes-answer g e x) e next y)) (sym front)
+          (subst (λ a. Good g next (note-take (Some f) a e next y)) (sym is) good);
     }
 
 -- a frame that acknowledges nothing leaves the tally

@@ -11,7 +11,7 @@ use Rattle.stations.specs.Station as end
 use Rattle.stations.specs.Station.{Block, Station, reset, outstanding, passed, allowed, sent, far-is, with-waiting}
 use Rattle.link.specs.History.{Tally, accept, acknowledge, take-in, fetch, restart}
 use Rattle.link.proofs.Modulo.{apart, next}
-use Rattle.link.proofs.Flows.{Carries}
+use Rattle.link.proofs.Flows.{Tells, Carries}
 
 pub record Sound (x : Station) (y : Tally) : Type 0 where
   pub vs-is : x .vs ≡ length (y .accepted) % 8
@@ -26,17 +26,21 @@ pub sound-reset : (x : Station) (y : Tally) → Sound (reset x) (restart y)
 sound-reset x y =
     record { vs-is = refl; va-is = refl; vr-is = refl; window-is = refl; room = omega arith; most = omega arith }
 
--- a station from which a block may be fetched
-pub sound-waiting : {x : Station} {y : Tally} (zs : List Block) → Sound x y → Sound (with-waiting x zs) y
-sound-waiting zs h =
-    record { vs-is = h .vs-is; va-is = h .va-is; vr-is = h .vr-is; window-is = h .window-is; room = h .room; most = h .most }
-
-pub sound-fetched : {x : Station} {y : Tally} (z : Block) → Sound x y → Sound x (fetch z y)
-sound-fetched z h =
-    record { vs-is = h .vs-is; va-is = h .va-is; vr-is = h .vr-is; window-is = h .window-is; room = h .room; most = h .most }
+-- a station from which a block is fetched
+pub sound-fetched : {x : Station} {y : Tally} (z : Block) (zs : List Block) →
+    Sound x y → Sound (with-waiting x zs) (fetch z y)
+sound-fetched z zs h =
+    record {
+      vs-is = h .vs-is;
+      va-is = h .va-is;
+      vr-is = h .vr-is;
+      window-is = h .window-is;
+      room = h .room;
+      most = h .most;
+    }
 
 -- what is outstanding
-pub outstanding-is : {x : Station} {y : Tally} → Sound x y → outstanding x ≡ length (y .accepted) - y .acknowledged
+outstanding-is : {x : Station} {y : Tally} → Sound x y → outstanding x ≡ length (y .accepted) - y .acknowledged
 outstanding-is {x} {y} h = rw (h .vs-is, h .va-is) (apart (y .acknowledged) (length (y .accepted)) (h .most) (h .room))
 
 -- a send
@@ -55,7 +59,8 @@ module _ {x : Station} {y : Tally} (z : Block) (h : Sound x y) (free : outstandi
       }
 
   -- the block sent is the last one accepted
-  pub carries-sent : Carries (y .accepted ++ (z ∷ [])) (x .vs) (length (y .accepted ++ (z ∷ []))) (length (y .accepted)) z
+  pub carries-sent :
+      Carries (y .accepted ++ (z ∷ [])) (x .vs) (length (y .accepted ++ (z ∷ []))) (length (y .accepted)) z
   carries-sent =
       record {
         number = sym (h .vs-is);
@@ -64,10 +69,11 @@ module _ {x : Station} {y : Tally} (z : Block) (h : Sound x y) (free : outstandi
         near = omega (arith, length-push (y .accepted) z);
       }
 
--- the number rule at an N(R) that stands for the count v
-module _ {x : Station} {y : Tally} (h : Sound x y) (v nr : ℕ) (e : v % 8 ≡ nr) (l : y .acknowledged ≤ v) (m : v ≤ length (y .accepted)) where
+-- the number rule at an N(R) that stands for the count v, of blocks accepted
+module _ {x : Station} {y : Tally} {nr v : ℕ} (h : Sound x y) (t : Tells nr (y .acknowledged) v)
+    (top : v ≤ length (y .accepted)) where
   passed-is : passed x nr ≡ v - y .acknowledged
-  passed-is = rw (← e, h .va-is) (apart (y .acknowledged) v l (omega (arith, h .room)))
+  passed-is = rw (← t .number, h .va-is) (apart (y .acknowledged) v (t .low) (omega (arith, h .room)))
 
   pub is-allowed : allowed x nr ≡ true
   is-allowed = le-leb (passed x nr) (outstanding x) (omega (arith, passed-is, outstanding-is h))
@@ -79,7 +85,7 @@ module _ {x : Station} {y : Tally} (h : Sound x y) (v nr : ℕ) (e : v % 8 ≡ n
   sound-acknowledge =
       record {
         vs-is = h .vs-is;
-        va-is = omega (arith, e, reaches);
+        va-is = omega (arith, t .number, reaches);
         vr-is = h .vr-is;
         window-is = ap (drop (passed x nr)) (h .window-is) ∙ drop-drop (passed x nr) (y .acknowledged) (y .accepted);
         room = omega (arith, h .room, reaches);
@@ -89,9 +95,17 @@ module _ {x : Station} {y : Tally} (h : Sound x y) (v nr : ℕ) (e : v % 8 ≡ n
   pub sound-far : (busy : Bool) → Sound (far-is (end.acknowledge x nr) busy) (acknowledge (passed x nr) y)
   sound-far busy =
       let s = sound-acknowledge in
-      record { vs-is = s .vs-is; va-is = s .va-is; vr-is = s .vr-is; window-is = s .window-is; room = s .room; most = s .most }
+      record {
+        vs-is = s .vs-is;
+        va-is = s .va-is;
+        vr-is = s .vr-is;
+        window-is = s .window-is;
+        room = s .room;
+        most = s .most;
+      }
 
-  pub sound-take-in : (z : Block) → Sound (end.take-in (end.acknowledge x nr) z) (take-in z (acknowledge (passed x nr) y))
+  pub sound-take-in : (z : Block) →
+      Sound (end.take-in (end.acknowledge x nr) z) (take-in z (acknowledge (passed x nr) y))
   sound-take-in z =
       let s = sound-acknowledge in
       record {

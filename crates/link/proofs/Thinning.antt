@@ -17,7 +17,7 @@ pub data Thin : List Entry → List Entry → Type 0 where
   hit : {a b : ℕ} {f : Parts} {es fs : List Entry} → Thin es fs → Thin (frame a f ∷ es) (struck b ∷ fs)
   gone : {e : Entry} {es fs : List Entry} → Thin es fs → Thin (e ∷ es) fs
 
-pub thin-same : (es : List Entry) → Thin es es
+thin-same : (es : List Entry) → Thin es es
 thin-same [] = none
 thin-same (struck a ∷ es) = mute (thin-same es)
 thin-same (frame a f ∷ es) = same (thin-same es)

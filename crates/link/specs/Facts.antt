@@ -35,11 +35,12 @@ abbrev pub way-one-after : List Call → List Entry
 way-one-after calls = way-one (run new-link calls .now)
 
 -- the blocks that the primary has then accepted since it opened
-abbrev pub by-primary : Account → List Block
-by-primary (account p s) = p .accepted
+abbrev pub primary-accepted : Account → List Block
+primary-accepted (account p s) = p .accepted
 
 abbrev pub accepted-after : List Call → List Block
-accepted-after calls = by-primary (account-of (new-link .measures) (new-link .now) (account no-tally no-tally) calls)
+accepted-after calls =
+    primary-accepted (account-of (new-link .measures) (new-link .now) (account no-tally no-tally) calls)
 
 -- the link opens, and its SARM is struck
 abbrev pub struck-opening : List Call
