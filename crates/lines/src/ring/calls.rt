@@ -110,13 +110,13 @@ impl<E: Blank> Ring<'_, E> {
         ensures holds { λ _. ⌜ held (now (self .exit)) ≡ set (held (now (self .entry))) i new ⌝ }
         ensures keeps { λ _. ⌜ Kept (E·Blank .bare) (now (self .entry)) (now (self .exit)) ⌝ }
     {
-        let t = self.bounds();
-        if i < t.count {
-            let p = slot_of(t.cap, t.first, i);
+        let b = self.bounds();
+        if i < b.count {
+            let p = slot_of(b.cap, b.first, i);
             self.slots[p] = new;
-            self.first = t.first;
-            self.count = t.count;
-            self.cap = t.cap;
+            self.first = b.first;
+            self.count = b.count;
+            self.cap = b.cap;
         }
     }
 
