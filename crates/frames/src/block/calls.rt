@@ -52,7 +52,7 @@ impl Block {
     pub fn len(&self) -> usize
         ensures { λ r. ⌜ r ≡ length (octets-in (now (self .entry))) ⌝ }
     {
-        self.len
+        self.octets().len()
     }
 
     // Its octets.

@@ -12,7 +12,7 @@ use crate::rows::move_down;
 use frames::Block;
 
 impl Queue {
-    pub fn new() -> Queue
+    pub(crate) fn new() -> Queue
         ensures { λ r. ⌜ in-queue r ≡ [] ⌝ }
     {
         Queue {
@@ -21,14 +21,14 @@ impl Queue {
         }
     }
 
-    pub fn len(&self) -> usize
+    pub(crate) fn len(&self) -> usize
         ensures { λ r. ⌜ r ≡ length (in-queue (now (self .entry))) ⌝ }
     {
         self.count
     }
 
     // A block joins the end, where 7 do not wait already.
-    pub fn push(&mut self, block: Block) -> bool
+    pub(crate) fn push(&mut self, block: Block) -> bool
         ensures answers { λ r. ⌜ r ≡ ltb (length (in-queue (now (self .entry)))) 7 ⌝ }
         ensures leaves { λ r. ⌜ in-queue (now (self .exit)) ≡ cond r (in-queue (now (self .entry)) ++ octets-in block ∷ []) (in-queue (now (self .entry))) ⌝ }
     {
@@ -42,7 +42,7 @@ impl Queue {
     }
 
     // The oldest block leaves.
-    pub fn pop(&mut self) -> Option<Block>
+    pub(crate) fn pop(&mut self) -> Option<Block>
         ensures answers { λ r. ⌜ mapped octets-in r ≡ at (in-queue (now (self .entry))) 0 ⌝ }
         ensures leaves { λ _. ⌜ in-queue (now (self .exit)) ≡ drop 1 (in-queue (now (self .entry))) ⌝ }
     {

@@ -12,7 +12,7 @@ use crate::rows::move_down;
 use frames::Block;
 
 impl Window {
-    pub fn new() -> Window
+    pub(crate) fn new() -> Window
         ensures { λ r. ⌜ in-window r ≡ [] ⌝ }
     {
         Window {
@@ -21,14 +21,14 @@ impl Window {
         }
     }
 
-    pub fn len(&self) -> usize
+    pub(crate) fn len(&self) -> usize
         ensures { λ r. ⌜ r ≡ length (in-window (now (self .entry))) ⌝ }
     {
         self.count
     }
 
     // A block of these octets joins the end, where 7 do not stand already and there are at most 64 octets.
-    pub fn push(&mut self, octets: &[u8]) -> bool
+    pub(crate) fn push(&mut self, octets: &[u8]) -> bool
         ensures answers { λ r. ⌜ r ≡ (ltb (length (in-window (now (self .entry)))) 7 && leb (length (now (octets .entry))) 64) ⌝ }
         ensures leaves { λ r. ⌜ in-window (now (self .exit)) ≡ cond r (in-window (now (self .entry)) ++ now (octets .entry) ∷ []) (in-window (now (self .entry))) ⌝ }
     {
@@ -47,7 +47,7 @@ impl Window {
     }
 
     // The `n` oldest blocks leave.
-    pub fn shed(&mut self, n: usize)
+    pub(crate) fn shed(&mut self, n: usize)
         ensures { λ _. ⌜ in-window (now (self .exit)) ≡ drop n (in-window (now (self .entry))) ⌝ }
     {
         let gone = n.min(self.count);
@@ -56,7 +56,7 @@ impl Window {
     }
 
     // The block at a place, 0 for the oldest.
-    pub fn get(&self, i: usize) -> Option<&Block>
+    pub(crate) fn get(&self, i: usize) -> Option<&Block>
         ensures { λ r. ⌜ mapped (λ x. octets-in (now x)) r ≡ at (in-window (now (self .entry))) i ⌝ }
     {
         if i < self.count {
