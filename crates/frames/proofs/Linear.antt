@@ -64,11 +64,6 @@ pub shift-lt : (x : ℕ) → x < 2 ^ 16 → shift x < 2 ^ 16
 unfolding shift
 shift-lt x h = xor-lt 16 (x / 2) (x % 2 * 0x8408) (omega arith) (omega arith)
 
-pub shifts-lt : (n x : ℕ) → x < 2 ^ 16 → shifts n x < 2 ^ 16
-unfolding shifts
-shifts-lt zero x h = h
-shifts-lt (suc n) x h = shifts-lt n (shift x) (shift-lt x h)
-
 -- two numbers whose sum is nothing are one
 pub xor-same : (a b : ℕ) → bitXor a b ≡ 0 → a ≡ b
 xor-same a b e = sym (xor-zero-r a) ∙ ap (bitXor a) (sym (xor-self b)) ∙ sym (xor-assoc a b b) ∙ ap (λ x. bitXor x b) e

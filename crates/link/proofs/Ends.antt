@@ -7,7 +7,7 @@ use native.Mathlib.Omega.{arith}
 use lib.ListN.{length, getD, take}
 use lib.Dec.{ltb, eqb}
 use Rattle.std.specs.declared.option.Option.the-variants.{Some, None}
-use Rattle.std.proofs.shelf.Lists.{length-push, take-more, take-append-le}
+use Rattle.std.proofs.shelf.Lists.{length-push, take-more, take-append-le, take-take}
 use Rattle.std.proofs.shelf.Tests.{eqb-true, and-parts}
 use Rattle.frames.specs.declared.kind.Kind.the-variants.{Disc}
 use Rattle.lines.specs.Entries.{Entry}
@@ -54,11 +54,14 @@ flip h =
 -- what a direction promises
 pub direction : {x : Station} {xt : Tally} {y : Station} {yt : Tally} {xy yx : List Entry} →
     Duplex false x xt y yt xy yx → Direction xt yt
-direction d =
+direction {xt = xt} {yt = yt} d =
     record {
       prefix = d .got-there;
+      arrived =
+          ap (take (xt .acknowledged)) (d .got-there)
+          ∙ take-take (xt .acknowledged) (length (yt .taken)) (xt .accepted) (flow-low (d .back));
       reached = flow-low (d .back);
-      accepted-first = flow-most (d .there);
+      within-accepted = flow-most (d .there);
       window = d .left .room;
     }
 

@@ -23,6 +23,7 @@ use Rattle.link.specs.Calls.{takes-answer}
 use Rattle.link.specs.History.{Call, run, Account, account, no-tally}
 use Rattle.link.specs.Promise.{Promised, Kept, Law}
 use Rattle.link.proofs.Ends.{flip, direction}
+use Rattle.link.proofs.Tallies.{unacknowledged}
 use Rattle.link.proofs.Phases.{Phase, both-closed, opening, both-open, closing, half-closed, Wholes, Good}
 use Rattle.link.proofs.Takes.{Unrefused}
 use Rattle.link.proofs.PrimaryTakes.{primary-takes}
@@ -37,7 +38,7 @@ not-open m closed e = both-ways (is-open m) closed (ap is-open e)
 promised : {g : Measures} {x : State} {y : Account} → Phase g x y → Wholes x y → Promised x y
 promised both-closed q = (q .0, q .1, λ e. absurd (not-open Closed refl e))
 promised (opening i s f) q = (q .0, q .1, λ e. absurd (not-open Opening refl e))
-promised (both-open i d) q = (q .0, q .1, λ e. (direction d, direction (flip d)))
+promised (both-open i d) q = (q .0, q .1, λ e. (direction d, direction (flip d), unacknowledged (d .left), unacknowledged (d .right)))
 promised (closing i d) q = (q .0, q .1, λ e. absurd (not-open Closing refl e))
 promised (half-closed i e l) q = (q .0, q .1, λ e. absurd (not-open Closing refl e))
 

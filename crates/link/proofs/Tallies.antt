@@ -10,6 +10,7 @@ use Rattle.std.proofs.shelf.Tests.{le-leb}
 use Rattle.stations.specs.Station as end
 use Rattle.stations.specs.Station.{Block, Station, reset, outstanding, passed, allowed, sent, far-is, with-waiting}
 use Rattle.link.specs.History.{Tally, accept, acknowledge, take-in, fetch, restart}
+use Rattle.link.specs.Promise.{Outstanding}
 use Rattle.link.proofs.Modulo.{apart, next}
 use Rattle.link.proofs.Flows.{Tells, Carries}
 
@@ -42,6 +43,9 @@ sound-fetched z zs h =
 -- what is outstanding
 outstanding-is : {x : Station} {y : Tally} → Sound x y → outstanding x ≡ length (y .accepted) - y .acknowledged
 outstanding-is {x} {y} h = rw (h .vs-is, h .va-is) (apart (y .acknowledged) (length (y .accepted)) (h .most) (h .room))
+
+pub unacknowledged : {x : Station} {y : Tally} → Sound x y → Outstanding x y
+unacknowledged h = record { unacknowledged = omega (arith, outstanding-is h, h .most) }
 
 -- a send
 module _ {x : Station} {y : Tally} (z : Block) (h : Sound x y) (free : outstanding x < 7) where

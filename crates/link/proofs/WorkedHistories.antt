@@ -5,8 +5,10 @@ use Rattle.link.specs.Facts.{Worked-histories}
 pub worked-histories : Worked-histories
 worked-histories =
     record {
+      too-short-number = refl;
       too-short = refl;
       enough = refl;
+      lost = refl;
       waits = refl;
       asks-again = refl;
       seven = refl;

@@ -7,7 +7,7 @@ use Rattle.std.specs.declared.result.Result.the-variants.{Ok, Err}
 use Rattle.frames.specs.declared.way.Way.the-variants.{One}
 use Rattle.frames.specs.declared.kind.Kind.the-variants.{I, Sarm}
 use Rattle.frames.specs.Parts.{parts}
-use Rattle.lines.specs.Entries.{Entry, frame, Lists}
+use Rattle.lines.specs.Entries.{Entry, struck, frame, Lists}
 use Rattle.stations.specs.declared.refusal.StationRefusal.the-variants.{Window}
 use Rattle.stations.specs.Station.{Block}
 use Rattle.stations.specs.Puts.{plain}
@@ -58,10 +58,12 @@ nine-sent =
     ++ (fetches Secondary ∷ takes Secondary ∷ takes Primary ∷ replicate 2 (sends Primary block))
 
 pub record Worked-histories : Type 0 where
-  -- with D = 2, T = 4 is too short and T = 5 is enough
+  -- with D = 2, T = 4 is too short, which is refused with 16, and T = 5 is enough
+  pub too-short-number : number-of Timer ≡ 16
   pub too-short : check-answer empty-line 4 ≡ Err Timer
   pub enough : check-answer empty-line 5 ≡ Ok tt
-  -- a lost SARM: four ticks on, way 1 is empty; the fifth puts a new one
+  -- a lost SARM: it is struck; four ticks on, way 1 is empty; the fifth puts a new one
+  pub lost : way-one-after struck-opening ≡ struck 0 ∷ []
   pub waits : way-one-after (struck-opening ++ replicate 4 ticks) ≡ []
   pub asks-again : way-one-after (struck-opening ++ replicate 5 ticks) ≡ frame 0 (plain Sarm) ∷ []
   -- seven blocks fill the window, and an eighth is refused with 20
