@@ -1,12 +1,12 @@
 -- The invariant holds after every list of calls on a sound link.
-use mathlib.Core.Path.{_≡_, refl, sym, ap, subst, _∙_}
+use mathlib.Core.Path.{_≡_, refl, sym, subst}
 use mathlib.Core.List.{List, [], _∷_}
 use Prim.Native.Nat.{_+_, _*_, _≤_}
 use Rattle.std.specs.declared.option.Option.the-variants.{None}
 use Rattle.link.specs.declared.end.End.the-variants.{Primary, Secondary}
 use Rattle.link.specs.State.{Measures, State, Model}
 use Rattle.link.specs.Calls.{held-by}
-use Rattle.link.specs.History.{Call, opens, closes, polls, ticks, sends, takes, fetches, strikes, leaves, step, run, Account, notes, account-of}
+use Rattle.link.specs.History.{Call, opens, closes, polls, ticks, sends, takes, fetches, strikes, leaves, step, run, Account, notes, noted-by, noted, account-of}
 use Rattle.link.proofs.Phases.{Good, Then}
 use Rattle.link.proofs.Requests.{keep-opens, keep-closes, keep-polls}
 use Rattle.link.proofs.Ticks.{keep-ticks}
@@ -36,11 +36,12 @@ run-measures l [] = refl
 run-measures l (c ∷ cs) = run-measures (step l c) cs
 
 -- and a link without a fault takes each step
-pub keep-run : (l : Model) (x : State) (y : Account) → 2 * l .measures .d + 1 ≤ l .measures .t →
-    l .fault ≡ None → l .now ≡ x → Good (l .measures) x y → (calls : List Call) →
-    Good (l .measures) (run l calls .now) (account-of (l .measures) x y calls)
-keep-run l x y large sound now h [] = subst (λ w. Good (l .measures) w y) (sym now) h
-keep-run l x y large sound now h (c ∷ cs) =
+pub keep-run : (l : Model) (y : Account) → 2 * l .measures .d + 1 ≤ l .measures .t → l .fault ≡ None →
+    Good (l .measures) (l .now) y → (calls : List Call) → Good (l .measures) (run l calls .now) (account-of l y calls)
+keep-run l y large sound h [] = h
+keep-run l y large sound h (c ∷ cs) =
     let g : Measures = l .measures in
-    keep-run (step l c) (leaves c g x) (notes c g x y) large sound
-    (ap (λ o. held-by o (l .now) (leaves c g (l .now))) sound ∙ ap (leaves c g) now) (keep-call g large c x y h) cs
+    let x : State = l .now in
+    keep-run (step l c) (noted l c y) large sound
+    (subst (λ o. Good g (held-by o x (leaves c g x)) (noted-by o y (notes c g x y))) (sym sound) (keep-call g large c x y h))
+    cs

@@ -92,7 +92,7 @@ module _ (ls : Lists) (t : ℕ) (sound : made ls t .fault ≡ None) where
   kept : (calls : List Call) → Kept (made ls t) calls
   kept calls =
       let l : Model = made ls t in
-      let good = keep-run l (l .now) (account no-tally no-tally) large sound refl start calls in
+      let good = keep-run l (account no-tally no-tally) large sound start calls in
       record {
         promised = promised (good .0) (good .1);
         numbered = λ e is.

@@ -40,7 +40,7 @@ primary-accepted (account p s) = p .accepted
 
 abbrev pub accepted-after : List Call → List Block
 accepted-after calls =
-    primary-accepted (account-of (new-link .measures) (new-link .now) (account no-tally no-tally) calls)
+    primary-accepted (account-of new-link (account no-tally no-tally) calls)
 
 -- the link opens, and its SARM is struck
 abbrev pub struck-opening : List Call

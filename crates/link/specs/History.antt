@@ -1,5 +1,5 @@
--- Histories of calls on one link, and the account that is kept of them from outside: from the calls, their answers and the
--- frames that takes remove.
+-- Histories of calls on one link, and the account that is kept of them from outside: from the calls, their answers, the
+-- frames that takes remove, and the answer of the question for the primary's mode.
 use Prim.Native.Nat.{ℕ, _+_}
 use mathlib.Core.List.{List, [], _∷_, _++_}
 use mathlib.Core.Bool.{Bool, true, false, not, _&&_}
@@ -20,7 +20,8 @@ use Rattle.link.specs.declared.end.End.{End}
 use Rattle.link.specs.declared.end.End.the-variants.{Primary, Secondary}
 use Rattle.link.specs.declared.refusal.LinkRefusal.{LinkRefusal}
 use Rattle.link.specs.State.{Measures, State, state, Model}
-use Rattle.link.specs.Calls.{opens-leaves, closes-leaves, polls-leaves, sends-answer, sends-leaves, takes-answer, takes-leaves, ticks-leaves, fetches-answer, fetches-leaves, strikes-leaves, after, asked}
+use Rattle.link.specs.Questions.{mode-of}
+use Rattle.link.specs.Calls.{opens-leaves, closes-leaves, polls-leaves, sends-answer, sends-leaves, takes-answer, takes-leaves, ticks-leaves, fetches-answer, fetches-leaves, strikes-leaves, after}
 
 -- the calls on a link
 pub data Call : Type 0 where
@@ -129,8 +130,9 @@ is-ua (parts Disc ns nr b z) = false
 is-ua (parts Ua ns nr b z) = true
 is-ua (parts Dm ns nr b z) = false
 
+-- the question for the primary's mode answers open
 abbrev pub primary-open : State → Bool
-primary-open (state one two m t u p s) = is-open m
+primary-open x = is-open (mode-of x)
 
 -- the secondary opens with each SARM that it takes, the primary with the UA that makes it open: one that it does not pass
 -- over, and after which it is open
@@ -155,7 +157,7 @@ note-take None a e next y = y
 note-take (Some f) (Err r) e next y = y
 note-take (Some f) (Ok a) e next y = at-end e (note-taken f a (opening e f a next)) y
 
--- what the account notes of a call on a sound link
+-- what the account notes of a call, by the call's answer
 abbrev pub notes : Call → Measures → State → Account → Account
 notes opens g x y = y
 notes closes g x y = y
@@ -166,7 +168,15 @@ notes (takes e) g x y = note-take (removed e x) (takes-answer g e x) e (takes-le
 notes (fetches e) g x y = note-fetch (fetches-answer e x) e y
 notes (strikes w place start mask) g x y = y
 
--- the account of a list of calls on a sound link with these measures, from its state x on
-abbrev pub account-of : Measures → State → Account → List Call → Account
-account-of g x y [] = y
-account-of g x y (c ∷ cs) = account-of g (leaves c g x) (notes c g x y) cs
+-- a link that its check refused answers every call with that refusal, so nothing is noted
+abbrev pub noted-by : Option LinkRefusal → Account → Account → Account
+noted-by (Some e) before after = before
+noted-by None before after = after
+
+abbrev pub noted : Model → Call → Account → Account
+noted l c y = noted-by (l .fault) y (notes c (l .measures) (l .now) y)
+
+-- the account of a list of calls, along the run that they make
+abbrev pub account-of : Model → Account → List Call → Account
+account-of l y [] = y
+account-of l y (c ∷ cs) = account-of (step l c) (noted l c y) cs

@@ -43,7 +43,7 @@ Never-numbering l = (e : End) → takes-answer (l .measures) e (l .now) ≡ Err 
 
 -- after a history on a sound link, from its making on
 pub record Kept (l : Model) (calls : List Call) : Type 0 where
-  pub promised : Promised (run l calls .now) (account-of (l .measures) (l .now) (account no-tally no-tally) calls)
+  pub promised : Promised (run l calls .now) (account-of l (account no-tally no-tally) calls)
   pub numbered : Never-numbering (run l calls)
 
 -- the law: whatever calls a sound link then meets
