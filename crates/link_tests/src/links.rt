@@ -10,6 +10,7 @@ use lines::TableLine;
 use link::Call;
 use link::End;
 use link::Link;
+use link::LinkRefusalDebug;
 use stations::ModeDebug;
 use stations::ModePartialEq;
 use stations::SecondaryModeDebug;

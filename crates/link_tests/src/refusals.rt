@@ -16,6 +16,8 @@ use link::Link;
 use link::LinkRefusal;
 use link::LinkRefusalDebug;
 use link::LinkRefusalPartialEq;
+use stations::CountsDebug;
+use stations::CountsPartialEq;
 use stations::Mode;
 use stations::ModeDebug;
 use stations::ModePartialEq;
@@ -24,6 +26,10 @@ use stations::SecondaryMode;
 use stations::SecondaryModeDebug;
 use stations::SecondaryModePartialEq;
 use stations::StationRefusal;
+use stations::StationRefusalDebug;
+use stations::StationRefusalPartialEq;
+use stations::TakenDebug;
+use stations::TakenPartialEq;
 use std::test::*;
 
 // Each kind of call once.
