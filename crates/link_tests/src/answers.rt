@@ -91,7 +91,7 @@ fn fetched(answer: Result<Fetched, LinkRefusal>) -> Answer {
 }
 
 // One call and its answer.
-pub fn answer<L: Line>(link: &mut Link<L>, call: Call) -> Answer {
+pub fn ask<L: Line>(link: &mut Link<L>, call: Call) -> Answer {
     match call {
         Call::Open => counted(link.open()),
         Call::Close => counted(link.close()),
@@ -110,7 +110,7 @@ pub fn answer<L: Line>(link: &mut Link<L>, call: Call) -> Answer {
 // Makes the calls of a table in their order, and holds each answer to the one beside it.
 pub fn follow<L: Line>(link: &mut Link<L>, rows: &[(Call, Answer)]) -> Result<(), Fail> {
     for (call, expected) in rows {
-        check_eq(answer(link, *call), *expected)?;
+        check_eq(ask(link, *call), *expected)?;
     }
     Ok(())
 }
@@ -123,7 +123,7 @@ pub fn repeat<L: Line>(
     expected: Answer,
 ) -> Result<(), Fail> {
     for i in 0..times {
-        check_eq(answer(link, call), expected)?;
+        check_eq(ask(link, call), expected)?;
     }
     Ok(())
 }

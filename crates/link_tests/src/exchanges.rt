@@ -46,7 +46,7 @@ fn lost_sarm<L: Line>(link: &mut Link<L>) -> Result<(), Fail> {
         ],
     )?;
     modes(link, Mode::Opening, SecondaryMode::Open)?;
-    check_eq(answer(link, Call::Take(End::Primary)), heeds(0, 0))?;
+    check_eq(ask(link, Call::Take(End::Primary)), heeds(0, 0))?;
     modes(link, Mode::Open, SecondaryMode::Open)
 }
 
@@ -60,12 +60,12 @@ fn opening_with_a_lost_sarm() -> Result<(), Fail> {
 
 // An entry stands for two ticks; the third removes it, and only the fifth asks again.
 fn aged_sarm<L: Line>(link: &mut Link<L>) -> Result<(), Fail> {
-    check_eq(answer(link, Call::Open), puts(1))?;
+    check_eq(ask(link, Call::Open), puts(1))?;
     repeat(link, 2, Call::Tick, puts(0))?;
     check_eq(link.entries(Way::One), 1)?;
     repeat(link, 2, Call::Tick, puts(0))?;
     check_eq(link.entries(Way::One), 0)?;
-    check_eq(answer(link, Call::Tick), puts(1))?;
+    check_eq(ask(link, Call::Tick), puts(1))?;
     check_eq(link.entries(Way::One), 1)
 }
 
@@ -82,7 +82,7 @@ fn seven_blocks<L: Line>(link: &mut Link<L>) -> Result<(), Fail> {
     opened(link)?;
     repeat(link, 7, send(End::Primary, 1), puts(1))?;
     check_eq(link.outstanding(End::Primary), 7)?;
-    check_eq(answer(link, send(End::Primary, 1)), Answer::Refused(20))?;
+    check_eq(ask(link, send(End::Primary, 1)), Answer::Refused(20))?;
     repeat(link, 7, Call::Take(End::Secondary), block_heard(0, true))?;
     check_eq(link.waiting(End::Secondary), 7)?;
     follow(
@@ -170,9 +170,9 @@ fn full_way<L: Line>(link: &mut Link<L>) -> Result<(), Fail> {
         ],
     )?;
     repeat(link, 7, Call::Take(End::Primary), block_heard(0, true))?;
-    check_eq(answer(link, Call::Take(End::Primary)), Answer::Refused(10))?;
+    check_eq(ask(link, Call::Take(End::Primary)), Answer::Refused(10))?;
     repeat(link, 4, Call::Tick, puts(0))?;
-    check_eq(answer(link, Call::Tick), puts(1))
+    check_eq(ask(link, Call::Tick), puts(1))
 }
 
 #[test]

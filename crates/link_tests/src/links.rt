@@ -66,7 +66,7 @@ fn alike<L: Line>(link: &Link<L>, other: &Link<L>) -> Result<(), Fail> {
 fn led<L: Line>(link: &mut Link<L>, other: &mut Link<L>, calls: &[Call]) -> Result<(), Fail> {
     link.play(calls);
     for call in calls {
-        let _ = answer(other, *call);
+        let _ = ask(other, *call);
     }
     alike(link, other)
 }

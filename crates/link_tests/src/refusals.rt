@@ -49,7 +49,7 @@ fn each() -> [Call; 8] {
 // Every call answers this number and alters nothing; the questions are answered.
 fn unsound<L: Line>(link: &mut Link<L>, number: u8, entries: usize) -> Result<(), Fail> {
     for call in each() {
-        check_eq(answer(link, call), Answer::Refused(number))?;
+        check_eq(ask(link, call), Answer::Refused(number))?;
     }
     check_eq(link.primary_mode(), Mode::Closed)?;
     check_eq(link.secondary_mode(), SecondaryMode::Closed)?;
@@ -142,7 +142,7 @@ fn open<L: Line>(link: &mut Link<L>) -> Result<(), Fail> {
     repeat(link, 7, send(End::Secondary, 1), puts(1))?;
     let long = link.send(End::Secondary, &[0; 65]);
     check_eq(counted(long), Answer::Refused(19))?;
-    check_eq(answer(link, send(End::Secondary, 1)), Answer::Refused(20))
+    check_eq(ask(link, send(End::Secondary, 1)), Answer::Refused(20))
 }
 
 #[test]
