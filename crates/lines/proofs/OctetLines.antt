@@ -2,21 +2,22 @@
 use mathlib.Core.Path.{_≡_, refl, sym, ap, ap₂, _∙_, subst}
 use mathlib.Core.List.{List, [], _∷_, _++_, map}
 use mathlib.Core.Bool.{Bool, cond, true}
-use Prim.Native.Nat.{ℕ, _+_, _*_, _/_, _%_, _<_, _≤_}
+use Prim.Native.Nat.{ℕ, zero, suc, _+_, _*_, _/_, _%_, _<_, _≤_}
 use native.Mathlib.Omega.{arith}
 use lib.Dec.{ltb, leb, eqb}
-use lib.ListN.{length, drop}
+use lib.ListN.{length, getD, set, drop}
 use Rattle.std.specs.shelf.Lists.{All}
 use Rattle.std.proofs.shelf.Lists.{length-map}
 use Rattle.std.proofs.shelf.Ways.{tells}
-use Rattle.std.specs.declared.option.Option.the-variants.{Some}
+use Rattle.std.specs.declared.option.Option.{Option}
+use Rattle.std.specs.declared.option.Option.the-variants.{Some, None}
 use Rattle.frames.specs.declared.way.Way.{Way}
 use Rattle.frames.specs.declared.way.Way.the-variants.{One, Two}
 use Rattle.lines.specs.declared.ring.Ring.{Ring}
 use Rattle.lines.specs.declared.octets.OctetLine.{OctetLine}
 use Rattle.lines.specs.Entries.{Entry, Lists, with-way, at, Bounded}
-use Rattle.lines.specs.Octets.{cut, records, places, Zeroed, octet-meaning}
-use Rattle.lines.specs.Packed.{age-in, Neat, packed-entry}
+use Rattle.lines.specs.Octets.{cut, records, records-on, struck-records, Found-in, places, Zeroed, octet-meaning}
+use Rattle.lines.specs.Packed.{age-in, burst, Neat, packed-entry}
 use Rattle.lines.specs.Ring.{size, held, free, Blanked}
 use Rattle.lines.specs.Stored.{fit, lists-by, age, aged, turned}
 use Rattle.lines.proofs.Ages.{turn-one, turn-old}
@@ -105,3 +106,23 @@ module _ (d : ℕ) (es ms : List (List ℕ)) (r : List ℕ) (a : ℕ) (n : a ≡
 
   pub turned-out : d ≤ a → map (packed-entry w) ms ≡ turned d (map (packed-entry w) es)
   turned-out h = turn-old (packed-entry w) d es ms r g m (let q : a ≡ age (packed-entry w r) = n ∙ sym (packed-age w r) in omega arith)
+
+-- ---- records at a place of a way
+
+pub found-in : (rs : List (List ℕ)) (place : ℕ) (o : Option (List ℕ)) → o ≡ at rs place → Found-in rs place o
+found-in rs place None e = tt
+found-in rs place (Some r) e = sym e
+
+pub held-at : (v : Way) (u t : OctetLine) (w : Way) (place : ℕ) (r : List ℕ) → w ≡ v
+    → records-on v u ≡ set (records-on v t) place r → records-on w u ≡ set (records-on w t) place r
+held-at v u t w place r e h = subst (λ x. records-on x u ≡ set (records-on x t) place r) (sym e) h
+
+at-getD : (rs : List (List ℕ)) (place : ℕ) (r : List ℕ) → at rs place ≡ Some r → getD rs place [] ≡ r
+at-getD [] place r e = absurd (let z : _≡_ {A = ℕ} 0 1 = cc in omega arith)
+at-getD (x ∷ rs) zero r e = cc
+at-getD (x ∷ rs) (suc place) r e = at-getD rs place r e
+
+-- the record that stood there, struck
+pub burst-at : (rs : List (List ℕ)) (place start mask : ℕ) (r s : List ℕ) → at rs place ≡ Some r → s ≡ burst start mask r
+    → set rs place s ≡ struck-records true place start mask rs
+burst-at rs place start mask r s e h = ap (set rs place) (h ∙ ap (burst start mask) (sym (at-getD rs place r e)))

@@ -1,6 +1,6 @@
 -- A packed record: the frame's length, its age in two octets, low one first, the frame's octets, and zeros behind; 72 octets.
 use mathlib.Core.Path.{_≡_}
-use mathlib.Core.List.{List}
+use mathlib.Core.List.{List, _++_}
 use mathlib.Core.Bool.{true}
 use Prim.Native.Nat.{ℕ, _+_, _*_}
 use lib.ListN.{getD, take, drop}
@@ -13,6 +13,7 @@ use Rattle.std.specs.declared.result.Result.the-variants.{Ok, Err}
 use Rattle.frames.specs.declared.way.Way.{Way}
 use Rattle.frames.specs.declared.refusal.FrameRefusal.{FrameRefusal}
 use Rattle.frames.specs.Parts.{Parts}
+use Rattle.frames.specs.Bits.{strike-leaves}
 use Rattle.frames.specs.Reader.{read-answer}
 use Rattle.frames.specs.Writer.{admit-answer}
 use Rattle.lines.specs.Entries.{Entry, struck, frame}
@@ -22,6 +23,10 @@ age-in r = getD r 1 0 + getD r 2 0 * 256
 
 abbrev pub frame-in : List ℕ → List ℕ
 frame-in r = take (getD r 0 0) (drop 3 r)
+
+-- a record whose frame a burst has struck: its length, its age and the octets behind the frame stay
+abbrev pub burst : ℕ → ℕ → List ℕ → List ℕ
+burst start mask r = take 3 r ++ (strike-leaves start mask (frame-in r) ++ drop (getD r 0 0) (drop 3 r))
 
 -- the octets behind the frame are zero
 abbrev pub Neat : List ℕ → Type 0

@@ -6,13 +6,14 @@ ghost use Prim.Native.Nat.{ℕ, _*_, _/_, _%_};
 ghost use lib.Dec.{ltb};
 ghost use lib.ListN.{length, set, drop};
 ghost use Rattle.std.specs.Options.{mapped};
+ghost use Rattle.std.specs.Results.{isOk};
 ghost use Rattle.frames.specs.declared.way.Way.{Way as Ways};
 ghost use Rattle.lines.specs.Entries.{on, with-way, at};
-ghost use Rattle.lines.specs.Line.{older, check-answer, made, take-leaves};
+ghost use Rattle.lines.specs.Line.{older, check-answer, made, strike-answer, strike-leaves, take-leaves};
 ghost use Rattle.lines.specs.Ring.{held, behind, Kept};
 ghost use Rattle.lines.specs.Stored.{fit, turned};
 ghost use Rattle.lines.specs.Packed.{packed-entry, Neat};
-ghost use Rattle.lines.specs.Octets.{records, places, Zeroed, Neat-if, octet-meaning, octet-beyond, Octet-tidy};
+ghost use Rattle.lines.specs.Octets.{records, records-on, struck-records, Found-in, places, Zeroed, Neat-if, octet-meaning, octet-beyond, Octet-tidy};
 use super::OctetLine;
 use super::packed;
 use super::store;
@@ -104,6 +105,7 @@ impl OctetLine<'_, '_> {
     fn get(&self, way: Way, place: usize) -> Option<[u8; 72]>
         ensures gives { λ r. ⌜ mapped (packed-entry way) r ≡ at (on way (octet-meaning (now (self .entry)))) place ⌝ }
         ensures neat { λ r. ⌜ (Octet-tidy (now (self .entry)) → Neat-if r) ⌝ }
+        ensures found { λ r. ⌜ Found-in (records-on way (now (self .entry))) place r ⌝ }
     {
         if !self.sound() {
             return None;
@@ -119,6 +121,7 @@ impl OctetLine<'_, '_> {
         ensures leaves { λ _. ⌜ octet-meaning (now (self .exit)) ≡ with-way way (set (on way (octet-meaning (now (self .entry)))) place (packed-entry way (now (new .entry)))) (octet-meaning (now (self .entry))) ⌝ }
         ensures keeps { λ _. ⌜ octet-beyond (now (self .exit)) ≡ octet-beyond (now (self .entry)) ⌝ }
         ensures tidy { λ _. ⌜ (Octet-tidy (now (self .entry)) → Neat (now (new .entry)) → Octet-tidy (now (self .exit))) ⌝ }
+        ensures holds { λ _. ⌜ records-on way (now (self .exit)) ≡ set (records-on way (now (self .entry))) place (now (new .entry)) ⌝ }
     {
         match way {
             Way::One => store::replace(&mut self.one, place, new),
@@ -195,13 +198,14 @@ pub impl Line for OctetLine<'_, '_> as OctetIsLine {
         }
     }
 
-    fn strike(
-        &mut self,
-        way: Way,
-        place: usize,
-        start: usize,
-        mask: u16,
-    ) -> Result<(), LineRefusal> {
+    // Besides what every line does, it turns over frame bit `start + i` for each bit `i` of the mask that is 1.
+    fn strike(&mut self, way: Way, place: usize, start: usize, mask: u16) -> Result<(), LineRefusal>
+        ensures answers { λ r. ⌜ r ≡ strike-answer (octet-meaning (now (self .entry))) way place start mask ⌝ }
+        ensures leaves { λ _. ⌜ octet-meaning (now (self .exit)) ≡ strike-leaves (octet-meaning (now (self .entry))) way place start mask ⌝ }
+        ensures keeps { λ _. ⌜ octet-beyond (now (self .exit)) ≡ octet-beyond (now (self .entry)) ⌝ }
+        ensures tidy { λ _. ⌜ (Octet-tidy (now (self .entry)) → Octet-tidy (now (self .exit))) ⌝ }
+        ensures flips { λ r. ⌜ records-on way (now (self .exit)) ≡ struck-records (isOk r) place start mask (records-on way (now (self .entry))) ⌝ }
+    {
         let Some(mut target) = self.get(way, place) else {
             return Err(LineRefusal::NoEntry);
         };

@@ -6,7 +6,7 @@ use Rattle.frames.specs.declared.way.Way.the-variants.{One, Two}
 use Rattle.lines.specs.Entries.{on, with-way}
 use Rattle.lines.specs.Octets.{records, octet-meaning}
 use Rattle.lines.specs.Packed.{packed-entry}
-use Rattle.lines.proofs.OctetLines.{plain, with-one, with-two}
+use Rattle.lines.proofs.OctetLines.{plain, with-one, with-two, held-at}
 use Rattle.lines.proofs.Stores.{change, pair-by, both-by}
 use Rattle.lines.proofs.octets.OctetLine.replace.Needs as need
 
@@ -20,6 +20,7 @@ returns-in-One c =
           ∙ sym (ap (λ w. with-way w (set (on w (octet-meaning t)) (c .args .place) (packed-entry w (c .args .new .now))) (octet-meaning t)) (c .in-One .is));
       keeps = pair-by (p .keeps .rest) refl;
       tidy = λ z n. both-by (λ x. p .zeroed x n) (λ x. x) z;
+      holds = held-at One _ t (c .args .way) (c .args .place) (c .args .new .now) (c .in-One .is) (p .holds);
     }
 
 pub returns-in-Two : need.returns-in-Two
@@ -32,4 +33,5 @@ returns-in-Two c =
           ∙ sym (ap (λ w. with-way w (set (on w (octet-meaning t)) (c .args .place) (packed-entry w (c .args .new .now))) (octet-meaning t)) (c .in-Two .is));
       keeps = pair-by refl (p .keeps .rest);
       tidy = λ z n. both-by (λ x. x) (λ x. p .zeroed x n) z;
+      holds = held-at Two _ t (c .args .way) (c .args .place) (c .args .new .now) (c .in-Two .is) (p .holds);
     }

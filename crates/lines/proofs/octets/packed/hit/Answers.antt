@@ -1,5 +1,6 @@
 use mathlib.Core.Path.{_≡_, refl, sym, ap, _∙_, subst}
 use mathlib.Core.Bool.{true, false}
+use mathlib.Core.List.{_++_}
 use Prim.Native.Nat.{_+_, _-_, _<_}
 use native.Mathlib.Omega.{arith}
 use lib.Dec.{leb}
@@ -11,8 +12,8 @@ use Rattle.frames.specs.Parts.{parts-of}
 use Rattle.frames.specs.declared.refusal.FrameRefusal.the-variants.{Check}
 use Rattle.frames.specs.Bits.{strike-leaves}
 use Rattle.lines.specs.Line.{bits, burst-by, strike-by}
-use Rattle.lines.specs.Packed.{age-in, frame-in, Neat, packed-entry}
-use Rattle.lines.proofs.Packs.{sized, too-long, unread, is-read, burst-told, hit-frame, hit-entry, hit-neat, hit-none}
+use Rattle.lines.specs.Packed.{age-in, Neat, packed-entry}
+use Rattle.lines.proofs.Packs.{sized, too-long, unread, is-read, burst-told, hit-entry, hit-neat, hit-none}
 use Rattle.lines.proofs.octets.packed.hit.Needs as need
 
 pub returns-then-n-gt68 : need.returns-then-n-gt68
@@ -55,7 +56,9 @@ returns-then-strike c =
       answers = burst-told (age-in r) p (c .args .start) (c .args .mask) lo _ (length (take m (drop 3 r))) true f (z .whole) (sym (c .if-strike .ensures tt .answers));
       leaves = hit-entry w m r ys p Check (c .told-record) me l f (c .strike .ensures .seen w p (sym (a .answers)) (c .if-strike .taken));
       neat = hit-neat w m r ys (c .told-record) me l;
-      flips = hit-frame m r ys (c .told-record) me l ∙ c .strike .ensures .leaves ∙ ap (λ k. strike-leaves (c .args .start) (c .args .mask) (take k (drop 3 r))) me;
+      flips =
+          ap (λ zs. take 3 r ++ (zs ++ drop m (drop 3 r))) (c .strike .ensures .leaves)
+          ∙ ap (λ k. take 3 r ++ (strike-leaves (c .args .start) (c .args .mask) (take k (drop 3 r)) ++ drop k (drop 3 r))) me;
     }
 
 pub returns-else-strike : need.returns-else-strike
@@ -76,5 +79,5 @@ returns-else-strike c =
       answers = burst-told (age-in r) p (c .args .start) (c .args .mask) lo _ (length (take m (drop 3 r))) false f (z .whole) no;
       leaves = ap (packed-entry w) same;
       neat = subst Neat (sym same);
-      flips = ap frame-in same;
+      flips = same;
     }

@@ -1,9 +1,10 @@
 use mathlib.Core.Path.{sym, ap, _∙_}
 use lib.ListN.{set}
 use Rattle.lines.specs.Entries.{on, with-way}
-use Rattle.lines.specs.Octets.{octet-meaning}
+use Rattle.lines.specs.Octets.{octet-meaning, records-on}
 use Rattle.lines.specs.Packed.{packed-entry}
 use Rattle.lines.proofs.Hits.{strike-granted, strike-hits}
+use Rattle.lines.proofs.OctetLines.{burst-at}
 use Rattle.lines.proofs.octets.calls.OctetIsLine.strike.Needs as need
 
 pub returns : need.returns
@@ -19,4 +20,7 @@ returns c =
           ∙ strike-hits l w (c .args .place) (c .args .start) (c .args .mask) e s (h .answers);
       keeps = c .replace .ensures .keeps;
       tidy = λ z. c .replace .ensures .tidy z (h .neat (c .in-Some .ensures tt .neat z));
+      flips =
+          c .replace .ensures .holds
+          ∙ burst-at (records-on w (c .args .self .now)) (c .args .place) (c .args .start) (c .args .mask) _ _ (c .in-Some .ensures tt .found) (h .flips);
     }
