@@ -15,7 +15,7 @@ use stations::TakenPartialEq;
 use std::test::*;
 
 #[derive(Clone, Copy, PartialEq, Eq, Debug)]
-pub enum Answer {
+pub(crate) enum Answer {
     Counted(Counts),
     Took(Taken),
     Fetched(usize),
@@ -23,12 +23,12 @@ pub enum Answer {
 }
 
 // So many frames are put, and none is lost.
-pub fn puts(put: usize) -> Answer {
+pub(crate) fn puts(put: usize) -> Answer {
     Answer::Counted(Counts { put, lost: 0 })
 }
 
 // A frame is heeded; the answers to it are so many frames, so many blocks are acknowledged, none is taken in.
-pub fn heeds(put: usize, acknowledged: usize) -> Answer {
+pub(crate) fn heeds(put: usize, acknowledged: usize) -> Answer {
     Answer::Took(Taken {
         counts: Counts { put, lost: 0 },
         acknowledged,
@@ -38,7 +38,7 @@ pub fn heeds(put: usize, acknowledged: usize) -> Answer {
 }
 
 // An I frame that acknowledges so many blocks, and whether its block is taken in.
-pub fn block_heard(acknowledged: usize, taken: bool) -> Answer {
+pub(crate) fn block_heard(acknowledged: usize, taken: bool) -> Answer {
     Answer::Took(Taken {
         counts: Counts { put: 0, lost: 0 },
         acknowledged,
@@ -48,7 +48,7 @@ pub fn block_heard(acknowledged: usize, taken: bool) -> Answer {
 }
 
 // A frame is passed over.
-pub fn passes() -> Answer {
+pub(crate) fn passes() -> Answer {
     Answer::Took(Taken {
         counts: Counts { put: 0, lost: 0 },
         acknowledged: 0,
@@ -58,18 +58,18 @@ pub fn passes() -> Answer {
 }
 
 // A block of this one octet.
-pub fn block(octet: u8) -> Block {
+fn block(octet: u8) -> Block {
     let mut block = Block::empty();
     let _ = block.write(&[octet]);
     block
 }
 
 // A send of a block of this one octet.
-pub fn send(end: End, octet: u8) -> Call {
+pub(crate) fn send(end: End, octet: u8) -> Call {
     Call::Send(end, block(octet))
 }
 
-pub fn counted(answer: Result<Counts, LinkRefusal>) -> Answer {
+pub(crate) fn counted(answer: Result<Counts, LinkRefusal>) -> Answer {
     match answer {
         Ok(counts) => Answer::Counted(counts),
         Err(refusal) => Answer::Refused(refusal.number()),
@@ -91,7 +91,7 @@ fn fetched(answer: Result<Fetched, LinkRefusal>) -> Answer {
 }
 
 // One call and its answer.
-pub fn ask<L: Line>(link: &mut Link<L>, call: Call) -> Answer {
+pub(crate) fn ask<L: Line>(link: &mut Link<L>, call: Call) -> Answer {
     match call {
         Call::Open => counted(link.open()),
         Call::Close => counted(link.close()),
@@ -108,7 +108,7 @@ pub fn ask<L: Line>(link: &mut Link<L>, call: Call) -> Answer {
 }
 
 // Makes the calls of a table in their order, and holds each answer to the one beside it.
-pub fn follow<L: Line>(link: &mut Link<L>, rows: &[(Call, Answer)]) -> Result<(), Fail> {
+pub(crate) fn follow<L: Line>(link: &mut Link<L>, rows: &[(Call, Answer)]) -> Result<(), Fail> {
     for (call, expected) in rows {
         check_eq(ask(link, *call), *expected)?;
     }
@@ -116,7 +116,7 @@ pub fn follow<L: Line>(link: &mut Link<L>, rows: &[(Call, Answer)]) -> Result<()
 }
 
 // Makes a call so many times, with the same answer each time.
-pub fn repeat<L: Line>(
+pub(crate) fn repeat<L: Line>(
     link: &mut Link<L>,
     times: usize,
     call: Call,
@@ -129,7 +129,7 @@ pub fn repeat<L: Line>(
 }
 
 // Opens the link with no frame lost.
-pub fn opened<L: Line>(link: &mut Link<L>) -> Result<(), Fail> {
+pub(crate) fn opened<L: Line>(link: &mut Link<L>) -> Result<(), Fail> {
     follow(
         link,
         &[

@@ -183,13 +183,16 @@ fn lost_frames_and_a_second_poll() -> Result<(), Fail> {
     full_way(&mut link)
 }
 
-// The first UA is struck. The second DISC finds the secondary closed, and its DM closes the primary.
+// A closing primary passes an I frame over. The first UA is struck; the second DISC finds the secondary closed, and its
+// DM closes the primary.
 fn lost_ua<L: Line>(link: &mut Link<L>) -> Result<(), Fail> {
     opened(link)?;
     follow(
         link,
         &[
+            (send(End::Secondary, 9), puts(1)),
             (Call::Close, puts(1)),
+            (Call::Take(End::Primary), passes()),
             (Call::Take(End::Secondary), heeds(1, 0)),
             (Call::Strike(Way::Two, 0, 0, 1), puts(0)),
             (Call::Take(End::Primary), Answer::Refused(10)),
