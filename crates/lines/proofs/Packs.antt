@@ -111,8 +111,15 @@ module _ (a : ℕ) (p : Parts) (start mask : ℕ) (lo : 0 < mask) where
   burst-told e len t h n q =
       sym (ap (λ x. strike-by (Some x) start mask) h ∙ by-burst a p start mask lo ∙ ap (burst-by false) (sym (struck-bits len n) ∙ q))
 
+-- the frame's octets in a record, after others as many took their place
+pub hit-frame : (m : ℕ) (r ys : List ℕ) → length r ≡ 72 → m ≡ getD r 0 0 → length ys ≡ m → frame-in (putMid 3 m r ys) ≡ ys
+hit-frame m [] ys l e n = absurd (omega arith)
+hit-frame m (i ∷ []) ys l e n = absurd (omega arith)
+hit-frame m (i ∷ j ∷ []) ys l e n = absurd (omega arith)
+hit-frame m (i ∷ j ∷ k ∷ rest) ys l e n = take-at ys (postOf 3 m (i ∷ j ∷ k ∷ rest)) i (omega arith)
+
 module _ (w : Way) (m : ℕ) where
-  -- the frame's octets in a record, after others as many took their place
+  -- the entry, after octets that do not read took the place of the frame's
   pub hit-entry : (r ys : List ℕ) (p : Parts) (x : FrameRefusal) → length r ≡ 72 → m ≡ getD r 0 0 → length ys ≡ m → packed-entry w r ≡ frame (age-in r) p →
       read-answer w ys ≡ Err x → packed-entry w (putMid 3 m r ys) ≡ hit (packed-entry w r)
   unfolding packed-entry

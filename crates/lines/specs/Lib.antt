@@ -7,3 +7,4 @@ pub mod Record
 pub mod Table
 pub mod Packed
 pub mod Octets
+pub mod Facts

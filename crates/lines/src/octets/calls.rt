@@ -61,7 +61,7 @@ fn age(ring: &mut Ring<'_, u8>, lifetime: u16)
 impl<'a, 'b> OctetLine<'a, 'b> {
     // Whether a line with these measures can be made in memories of these many octets.
     pub fn check(k: usize, d: usize, one: usize, two: usize) -> Result<(), LineRefusal>
-        ensures { λ r. ⌜ r ≡ check-answer k d (one / 72) (two / 72) ⌝ }
+        ensures answers { λ r. ⌜ r ≡ check-answer k d (one / 72) (two / 72) ⌝ }
     {
         measures::check(k, d, one / 72, two / 72)
     }

@@ -9,9 +9,10 @@ ghost use Rattle.std.specs.declared.option.Option.the-variants.{Some};
 ghost use Rattle.frames.specs.declared.way.Way.{Way as Ways};
 ghost use Rattle.frames.specs.Parts.{parts, info-of, parts-of};
 ghost use Rattle.frames.specs.Blocks.{parts-in};
+ghost use Rattle.frames.specs.Bits.{strike-leaves};
 ghost use Rattle.lines.specs.Line.{strike-by, hit};
 ghost use Rattle.lines.specs.Stored.{aged};
-ghost use Rattle.lines.specs.Packed.{age-in, packed-entry, entry-told, Neat, Packs};
+ghost use Rattle.lines.specs.Packed.{age-in, frame-in, packed-entry, entry-told, Neat, Packs};
 use crate::LineRefusal;
 use frames::Block;
 use frames::Frame;
@@ -117,6 +118,7 @@ pub(crate) fn hit(
     ensures answers { λ r. ⌜ r ≡ strike-by (Some (packed-entry way (now («record» .entry)))) start mask ⌝ }
     ensures leaves { λ r. ⌜ packed-entry way (now («record» .exit)) ≡ cond (isOk r) (hit (packed-entry way (now («record» .entry)))) (packed-entry way (now («record» .entry))) ⌝ }
     ensures neat { λ _. ⌜ (Neat (now («record» .entry)) → Neat (now («record» .exit))) ⌝ }
+    ensures flips { λ r. ⌜ frame-in (now («record» .exit)) ≡ cond (isOk r) (strike-leaves start mask (frame-in (now («record» .entry)))) (frame-in (now («record» .entry))) ⌝ }
 {
     let n = record[0] as usize;
     if n > 68 {

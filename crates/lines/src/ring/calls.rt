@@ -82,7 +82,7 @@ impl<E: Blank> Ring<'_, E> {
     pub fn size(&self) -> usize
         ensures { λ r. ⌜ r ≡ size (now (self .entry)) ⌝ }
     {
-        self.cap.min(self.slots.len())
+        self.bounds().cap
     }
 
     // How many places it holds.
@@ -106,14 +106,14 @@ impl<E: Blank> Ring<'_, E> {
     }
 
     // Writes over a place that it holds.
-    pub fn replace(&mut self, i: usize, e: E)
-        ensures holds { λ _. ⌜ held (now (self .exit)) ≡ set (held (now (self .entry))) i e ⌝ }
+    pub fn replace(&mut self, i: usize, new: E)
+        ensures holds { λ _. ⌜ held (now (self .exit)) ≡ set (held (now (self .entry))) i new ⌝ }
         ensures keeps { λ _. ⌜ Kept (E·Blank .bare) (now (self .entry)) (now (self .exit)) ⌝ }
     {
         let t = self.bounds();
         if i < t.count {
             let p = slot_of(t.cap, t.first, i);
-            self.slots[p] = e;
+            self.slots[p] = new;
             self.first = t.first;
             self.count = t.count;
             self.cap = t.cap;

@@ -10,6 +10,7 @@ ghost use Rattle.lines.specs.Line.{older, check-answer, made, take-leaves};
 ghost use Rattle.lines.specs.Ring.{size, held, behind, Kept};
 ghost use Rattle.lines.specs.Stored.{fit, turned};
 ghost use Rattle.lines.specs.Record.{blank-record, entry-of};
+ghost use Rattle.lines.specs.Facts.{Worked};
 ghost use Rattle.lines.specs.Table.{table-meaning, table-beyond, Table-tidy};
 ghost use Rattle.lines.specs.declared.record.Record.{Record as Records};
 use super::TableLine;
@@ -55,7 +56,8 @@ fn age(ring: &mut Ring<'_, Record>, lifetime: u16)
 impl<'a, 'b> TableLine<'a, 'b> {
     // Whether a line with these measures can be made in memories of these lengths.
     pub fn check(k: usize, d: usize, one: usize, two: usize) -> Result<(), LineRefusal>
-        ensures { λ r. ⌜ r ≡ check-answer k d one two ⌝ }
+        ensures answers { λ r. ⌜ r ≡ check-answer k d one two ⌝ }
+        ensures worked { λ _. ⌜ Worked ⌝ }
     {
         measures::check(k, d, one, two)
     }

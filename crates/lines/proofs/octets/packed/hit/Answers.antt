@@ -9,21 +9,22 @@ use Rattle.std.proofs.shelf.Tests.{cond-false, eq-eqb}
 use Rattle.std.specs.declared.option.Option.the-variants.{Some}
 use Rattle.frames.specs.Parts.{parts-of}
 use Rattle.frames.specs.declared.refusal.FrameRefusal.the-variants.{Check}
+use Rattle.frames.specs.Bits.{strike-leaves}
 use Rattle.lines.specs.Line.{bits, burst-by, strike-by}
-use Rattle.lines.specs.Packed.{age-in, Neat, packed-entry}
-use Rattle.lines.proofs.Packs.{sized, too-long, unread, is-read, burst-told, hit-entry, hit-neat, hit-none}
+use Rattle.lines.specs.Packed.{age-in, frame-in, Neat, packed-entry}
+use Rattle.lines.proofs.Packs.{sized, too-long, unread, is-read, burst-told, hit-frame, hit-entry, hit-neat, hit-none}
 use Rattle.lines.proofs.octets.packed.hit.Needs as need
 
 pub returns-then-n-gt68 : need.returns-then-n-gt68
 returns-then-n-gt68 c =
     let e = too-long (c .args .way) (c .args .record .now) (c .told-record) (c .if-n-gt68 .taken) in
-    record { answers = sym (ap (λ x. strike-by (Some x) (c .args .start) (c .args .mask)) e); leaves = refl; neat = λ h. h }
+    record { answers = sym (ap (λ x. strike-by (Some x) (c .args .start) (c .args .mask)) e); leaves = refl; neat = λ h. h; flips = refl }
 
 pub returns-in-rest : need.returns-in-rest
 returns-in-rest c =
     let r = c .args .record .now in
     let e = unread (c .args .way) r (3 + getD r 0 0 - 3) (omega arith) _ (c .in-rest .ensures tt .answers) in
-    record { answers = sym (ap (λ x. strike-by (Some x) (c .args .start) (c .args .mask)) e); leaves = refl; neat = λ h. h }
+    record { answers = sym (ap (λ x. strike-by (Some x) (c .args .start) (c .args .mask)) e); leaves = refl; neat = λ h. h; flips = refl }
 
 pub returns-then-mask-eq0 : need.returns-then-mask-eq0
 returns-then-mask-eq0 c =
@@ -34,6 +35,7 @@ returns-then-mask-eq0 c =
       answers = sym (ap (λ x. strike-by (Some x) (c .args .start) (c .args .mask)) f ∙ ap (λ m. burst-by m (leb (c .args .start + 16) (bits p))) (eq-eqb (c .args .mask) 0 (c .if-mask-eq0 .taken)));
       leaves = refl;
       neat = λ h. h;
+      flips = refl;
     }
 
 pub returns-then-strike : need.returns-then-strike
@@ -53,6 +55,7 @@ returns-then-strike c =
       answers = burst-told (age-in r) p (c .args .start) (c .args .mask) lo _ (length (take m (drop 3 r))) true f (z .whole) (sym (c .if-strike .ensures tt .answers));
       leaves = hit-entry w m r ys p Check (c .told-record) me l f (c .strike .ensures .seen w p (sym (a .answers)) (c .if-strike .taken));
       neat = hit-neat w m r ys (c .told-record) me l;
+      flips = hit-frame m r ys (c .told-record) me l ∙ c .strike .ensures .leaves ∙ ap (λ k. strike-leaves (c .args .start) (c .args .mask) (take k (drop 3 r))) me;
     }
 
 pub returns-else-strike : need.returns-else-strike
@@ -73,4 +76,5 @@ returns-else-strike c =
       answers = burst-told (age-in r) p (c .args .start) (c .args .mask) lo _ (length (take m (drop 3 r))) false f (z .whole) no;
       leaves = ap (packed-entry w) same;
       neat = subst Neat (sym same);
+      flips = ap frame-in same;
     }

@@ -11,11 +11,11 @@ returns-then-i-t g c =
     let t = c .bounds-t .ensures in
     let w : Within _ _ _ _ = record { fits = t .fits; starts = t .starts; holds = t .holds } in
     record {
-      holds = held-put _ _ _ _ w (c .args .i) _ (c .args .e) (c .if-i-t .taken) (c .slot-of-p .ensures .is) ∙ sym (ap (λ es. set es (c .args .i) (c .args .e)) (t .held));
+      holds = held-put _ _ _ _ w (c .args .i) _ (c .args .new) (c .if-i-t .taken) (c .slot-of-p .ensures .is) ∙ sym (ap (λ es. set es (c .args .i) (c .args .new)) (t .held));
       keeps = record {
         slots = size-kept _ _ _ _ _ (t .fits) (t .size);
         rest = drop-set-lt _ _ _ _ (c .slot-of-p .ensures .within) ∙ sym (t .rest);
-        blanks = all-same _ _ _ (free-put _ _ _ _ w (c .args .i) _ (c .args .e) (c .if-i-t .taken) (c .slot-of-p .ensures .is) ∙ sym (t .free));
+        blanks = all-same _ _ _ (free-put _ _ _ _ w (c .args .i) _ (c .args .new) (c .if-i-t .taken) (c .slot-of-p .ensures .is) ∙ sym (t .free));
       };
     }
 
