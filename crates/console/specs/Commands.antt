@@ -10,6 +10,8 @@ use Rattle.frames.specs.declared.way.Way.{Way}
 use Rattle.frames.specs.declared.way.Way.the-variants.{One, Two}
 use Rattle.frames.specs.declared.kind.Kind.{Kind}
 use Rattle.frames.specs.declared.kind.Kind.the-variants.{I, Rr, Rnr, Sarm, Disc, Ua, Dm}
+use Rattle.link.specs.declared.end.End.{End}
+use Rattle.link.specs.declared.end.End.the-variants.{Primary, Secondary}
 
 abbrev pub way-answer : List ℕ → Option Way
 way-answer w = cond (sameBytes w (codes "1")) (Some One) (cond (sameBytes w (codes "2")) (Some Two) None)
@@ -23,3 +25,8 @@ kind-answer w =
     (cond (sameBytes w (codes "DISC")) (Some Disc)
     (cond (sameBytes w (codes "UA")) (Some Ua)
     (cond (sameBytes w (codes "DM")) (Some Dm) None))))))
+
+abbrev pub end-answer : List ℕ → Option End
+end-answer w =
+    cond (sameBytes w (codes "primary")) (Some Primary)
+    (cond (sameBytes w (codes "secondary")) (Some Secondary) None)

@@ -1,4 +1,4 @@
--- Decimal numbers from 0 to 255.
+-- Decimal numbers up to a bound.
 use Prim.Native.Nat.{ℕ, _+_, _-_, _*_}
 use mathlib.Core.Bool.{Bool, true, cond, not, _&&_}
 use mathlib.Core.List.{List, [], _∷_}
@@ -19,7 +19,7 @@ abbrev pub value-after : ℕ → List ℕ → ℕ
 value-after n [] = n
 value-after n (o ∷ os) = value-after (n * 10 + (o - 48)) os
 
--- one digit or more, and nothing else, that spell a number of at most 255
-abbrev pub decimal-answer : List ℕ → Option ℕ
-decimal-answer os =
-    cond (not (eqb (length os) 0) && (all-digits os && leb (value-after 0 os) 255)) (Some (value-after 0 os)) None
+-- one digit or more, and nothing else, that spell a number of at most that
+abbrev pub decimal-answer : ℕ → List ℕ → Option ℕ
+decimal-answer most os =
+    cond (not (eqb (length os) 0) && (all-digits os && leb (value-after 0 os) most)) (Some (value-after 0 os)) None

@@ -7,14 +7,19 @@ ghost use Rattle.frames.specs.Reader.{read-answer};
 ghost use Rattle.frames.specs.Writer.{frame-octets};
 ghost use Rattle.console.specs.Answers.{plain-text, status-text, i-text, octets-text, error-text, numbered-text, frame-text, refusal-text, read-text, write-text};
 use crate::command::Command;
+use crate::command::Draft;
+use crate::command::Setup;
+use crate::command::misplaced;
 use crate::command::parse;
 use crate::fault::Fault;
-use crate::fault::FaultFromAlloc;
 use crate::hex;
+use crate::words::split_word;
 use frames::Frame;
+use frames::FrameBuf;
 use frames::FrameRefusal;
 use frames::Kind;
 use frames::Way;
+use link::LinkRefusal;
 use std::alloc::AllocError;
 use std::alloc::Global;
 
@@ -59,8 +64,28 @@ fn frame_text(heap: Global, frame: Frame<'_>) -> Result<String, AllocError>
     }
 }
 
+// The text of a frame that a line gave.
+pub fn buffer_text(heap: Global, frame: &FrameBuf) -> Result<String, AllocError> {
+    let ns = frame.ns;
+    let nr = frame.nr;
+    let b = frame.b;
+    let frame = match frame.kind {
+        Kind::I => {
+            let info = frame.block.octets();
+            Frame::I { ns, nr, b, info }
+        }
+        Kind::Rr => Frame::Rr { nr, b },
+        Kind::Rnr => Frame::Rnr { nr, b },
+        Kind::Sarm => Frame::Sarm,
+        Kind::Disc => Frame::Disc,
+        Kind::Ua => Frame::Ua,
+        Kind::Dm => Frame::Dm,
+    };
+    frame_text(heap, frame)
+}
+
 // A refusal by its number and its word.
-fn numbered_text(heap: Global, number: u8, word: &str) -> Result<String, AllocError>
+pub fn numbered_text(heap: Global, number: u8, word: &str) -> Result<String, AllocError>
     ensures { λ r. ⌜ made r (λ t. string-bytes t ≡ numbered-text number (now (word .entry))) ⌝ }
 {
     format!(heap, "refused {number} {word}\n")
@@ -117,120 +142,71 @@ pub enum Reply {
     Error(String),
 }
 
+// What a line comes to, whatever stands.
+#[derive(Drop)]
+pub enum Step {
+    Reply(Reply),
+    // Something new is to stand.
+    Stand(Setup),
+    // The line is for what stands.
+    Other,
+}
+
+// The answer where a line or a link was to be made.
+pub fn made_text(heap: Global, made: Result<(), LinkRefusal>) -> Result<String, AllocError> {
+    match made {
+        Ok(_) => String::from_str(heap, "made\n"),
+        Err(refusal) => numbered_text(heap, refusal.number(), refusal.word()),
+    }
+}
+
 fn error_text(heap: Global, words: &str) -> Result<String, AllocError>
     ensures { λ r. ⌜ made r (λ t. string-bytes t ≡ error-text (now (words .entry))) ⌝ }
 {
     format!(heap, "error: {words}\n")
 }
 
-fn answer(heap: Global, command: Command) -> Result<String, AllocError> {
-    match command {
-        Command::Read { way, octets } => read_text(heap, way, octets.as_slice()),
-        Command::Write {
-            way,
-            kind,
-            ns,
-            nr,
-            b,
-            info,
-        } => write_text(heap, way, kind, ns, nr, b, info.as_slice()),
+fn answer(heap: Global, command: Command) -> Result<Step, AllocError> {
+    let text = match command {
+        Command::Read(way, octets) => read_text(heap, way, octets.as_slice())?,
+        Command::Write(draft) => write_draft(heap, draft)?,
+        Command::Stand(setup) => return Ok(Step::Stand(setup)),
+        Command::Other => return Ok(Step::Other),
+    };
+    Ok(Step::Reply(Reply::Answer(text)))
+}
+
+fn write_draft(heap: Global, draft: Draft) -> Result<String, AllocError> {
+    let Draft {
+        way,
+        kind,
+        ns,
+        nr,
+        b,
+        info,
+    } = draft;
+    write_text(heap, way, kind, ns, nr, b, info.as_slice())
+}
+
+// The reply to a line that cannot be understood.
+pub fn error(heap: Global, fault: Fault) -> Result<Reply, AllocError> {
+    match fault {
+        Fault::Memory => Err(AllocError),
+        _ => Ok(Reply::Error(error_text(heap, fault.words())?)),
     }
 }
 
-// The reply to one line, with the newline at its end.
-pub fn reply_to(heap: Global, line: &[u8]) -> Result<Reply, AllocError> {
+// What a line comes to, whatever stands.
+pub fn reply_to(heap: Global, line: &[u8]) -> Result<Step, AllocError> {
     match parse(heap, line) {
-        Ok(None) => Ok(Reply::Nothing),
-        Ok(Some(command)) => Ok(Reply::Answer(answer(heap, command)?)),
-        Err(Fault::Memory) => Err(AllocError),
-        Err(fault) => Ok(Reply::Error(error_text(heap, fault.words())?)),
+        Ok(None) => Ok(Step::Reply(Reply::Nothing)),
+        Ok(Some(command)) => answer(heap, command),
+        Err(fault) => Ok(Step::Reply(error(heap, fault)?)),
     }
 }
 
-#[cfg(test)]
-mod tests {
-    use super::Reply;
-    use super::reply_to;
-    use std::alloc::Global;
-    use std::test::*;
-
-    // The text of the reply to a line: the error's behind `!`, and `.` for no reply.
-    fn told(heap: Global, line: &[u8]) -> Result<String, Fail> {
-        match reply_to(heap, line)? {
-            Reply::Nothing => Ok(String::from_str(heap, ".")?),
-            Reply::Answer(text) => Ok(text),
-            Reply::Error(text) => Ok(format!(heap, "!{text}")?),
-        }
-    }
-
-    fn expect(rt: &LibcRuntime, line: &[u8], reply: &str) -> Result<(), Fail> {
-        let text = told(rt.alloc(), line)?;
-        check_eq(text.as_str(), reply)
-    }
-
-    #[test]
-    fn no_reply(rt: LibcRuntime) -> Result<(), Fail> {
-        let lines: [&[u8]; 6] = [
-            b"",
-            b"\n",
-            b" \t\x0b\x0c\r\n",
-            b"#",
-            b"  # read 3",
-            b"#read\xff\n",
-        ];
-        for line in lines {
-            expect(&rt, line, ".")?;
-        }
-        Ok(())
-    }
-
-    #[test]
-    fn words_apart(rt: LibcRuntime) -> Result<(), Fail> {
-        expect(&rt, b"\tread\x0b2\x0c\r01738357 \r\n", "frame UA\n")?;
-        expect(&rt, b"read 1 -", "refused 1 short\n")?;
-        expect(&rt, b"write 1 I 0 0 0 -\n", "octets 01009f16\n")
-    }
-
-    #[test]
-    fn errors(rt: LibcRuntime) -> Result<(), Fail> {
-        let octets =
-            "!error: octets must be an even number of hexadecimal digits, or '-' for none\n";
-        let lines: [(&[u8], &str); 16] = [
-            (b"reads 1 -", "!error: no such command\n"),
-            (b"READ 1 -", "!error: no such command\n"),
-            (b"\xff\x00", "!error: no such command\n"),
-            (b"read", "!error: the way must be 1 or 2\n"),
-            (b"read 01 -", "!error: the way must be 1 or 2\n"),
-            (b"read 1", octets),
-            (b"read 1 0", octets),
-            (b"read 1 0g", octets),
-            (b"read 1 --", octets),
-            (b"read 1 0x00", octets),
-            (b"read 1 - -", "!error: too many words\n"),
-            (
-                b"write 1 i 0 0 0 -",
-                "!error: the kind must be I, RR, RNR, SARM, DISC, UA or DM\n",
-            ),
-            (
-                b"write 1 I +1 0 0 -",
-                "!error: N(S) must be a decimal number from 0 to 255\n",
-            ),
-            (
-                b"write 1 I 0 256 0 -",
-                "!error: N(R) must be a decimal number from 0 to 255\n",
-            ),
-            (
-                b"write 1 I 0 255 1a -",
-                "!error: B must be a decimal number from 0 to 255\n",
-            ),
-            (
-                b"write 1 I 0 0 0 - # no comment",
-                "!error: too many words\n",
-            ),
-        ];
-        for (line, reply) in lines {
-            expect(&rt, line, reply)?;
-        }
-        Ok(())
-    }
+// The reply to a line where nothing stands that it could be for.
+pub fn nothing_reply(heap: Global, line: &[u8]) -> Result<Reply, AllocError> {
+    let (name, _) = split_word(line);
+    error(heap, misplaced(name))
 }

@@ -7,18 +7,31 @@ use Rattle.console.proofs.decimal.decimal.Needs as need
 use Rattle.console.proofs.decimal.decimal.Needs.{then-octet-lt48·by·then-octet-lt48, then-octet-lt48·by·else-octet-lt48·then-octet-gt57}
 
 pub returns-then-octet-lt48 : need.returns-then-octet-lt48
-returns-then-octet-lt48 c = sym (refused-digit (c .args .word .now) (c .loop-octet .octet-index) (c .loop-octet .value) (omega arith)
-    (elim (c .then-octet-lt48 .came) [
-      | then-octet-lt48·by·then-octet-lt48 w ↦ inl (w .if-octet-lt48 .taken)
-      | then-octet-lt48·by·else-octet-lt48·then-octet-gt57 w ↦ inr (w .if-octet-gt57 .taken)
-    ])
-    (c .loop-octet .inv))
+returns-then-octet-lt48 c =
+    record {
+      answers =
+          sym (refused-digit (c .args .most) (c .args .word .now) (c .loop-octet .octet-index) (c .loop-octet .value) (omega arith)
+          (elim (c .then-octet-lt48 .came) [
+            | then-octet-lt48·by·then-octet-lt48 w ↦ inl (w .if-octet-lt48 .taken)
+            | then-octet-lt48·by·else-octet-lt48·then-octet-gt57 w ↦ inr (w .if-octet-gt57 .taken)
+          ])
+          (c .loop-octet .inv));
+      bounds = tt;
+    }
 
-pub returns-then-value-gt255 : need.returns-then-value-gt255
-returns-then-value-gt255 c = sym (refused-large (c .args .word .now) (c .loop-octet .octet-index) (c .loop-octet .value) (omega arith) (omega arith) (c .loop-octet .inv))
+pub returns-then-value-most : need.returns-then-value-most
+returns-then-value-most c =
+    record {
+      answers = sym (refused-large (c .args .most) (c .args .word .now) (c .loop-octet .octet-index) (c .loop-octet .value) (omega arith) (omega arith) (c .loop-octet .inv));
+      bounds = tt;
+    }
 
 pub loop-octet-again : need.loop-octet-again
-loop-octet-again c = one-more (c .args .word .now) (c .loop-octet .octet-index) (c .loop-octet .value) (omega arith) (omega arith) (omega arith) (omega arith) (c .loop-octet .inv)
+loop-octet-again c = one-more (c .args .most) (c .args .word .now) (c .loop-octet .octet-index) (c .loop-octet .value) (omega arith) (omega arith) (omega arith) (omega arith) (c .loop-octet .inv)
 
 pub returns : need.returns
-returns c = sym (all-read (c .args .word .now) (c .loop-octet .octet-index) (c .loop-octet .value) (omega arith) (omega (arith, false-eqb _ 0 (c .if-is-empty .ensures tt))) (c .loop-octet .inv))
+returns c =
+    record {
+      answers = sym (all-read (c .args .most) (c .args .word .now) (c .loop-octet .octet-index) (c .loop-octet .value) (omega arith) (omega (arith, false-eqb _ 0 (c .if-is-empty .ensures tt))) (c .loop-octet .inv));
+      bounds = c .loop-octet .inv .small;
+    }
