@@ -150,6 +150,35 @@ mod tests {
         check(out == [0xaa; 3])
     }
 
+    // The longest information, the least room and the largest numbers are granted; one more, or one octet less, is refused.
+    #[test]
+    fn write_edges() -> Result<(), Fail> {
+        let info = [0x55; 65];
+        let mut out = [0xaa; 68];
+        check_eq(
+            write(Way::One, Kind::I, 7, 7, 1, &info, &mut out),
+            Err(FrameRefusal::Long),
+        )?;
+        check_eq(
+            write(Way::One, Kind::I, 7, 7, 1, &info[0..64], &mut out[0..67]),
+            Err(FrameRefusal::NoSpace),
+        )?;
+        check(out == [0xaa; 68])?;
+        check_eq(
+            write(Way::One, Kind::I, 7, 7, 1, &info[0..64], &mut out),
+            Ok(68),
+        )?;
+        check(is_read(Way::One, &out, Kind::I, (7, 7, 1), &info[0..64]))?;
+        check_eq(
+            write(Way::One, Kind::I, 0, 8, 0, &[], &mut out),
+            Err(FrameRefusal::Control),
+        )?;
+        check_eq(
+            write(Way::One, Kind::I, 0, 0, 2, &[], &mut out),
+            Err(FrameRefusal::Control),
+        )
+    }
+
     #[test]
     fn strikes() -> Result<(), Fail> {
         let mut octets = [0x01, 0x73, 0x83, 0x57];
