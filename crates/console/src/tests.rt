@@ -64,7 +64,7 @@ fn no_reply(rt: HostRuntime) -> Result<(), Fail> {
 
 #[test]
 fn nothing_stands(rt: HostRuntime) -> Result<(), Fail> {
-    let lines: [(&[u8], &str); 41] = [
+    let lines: [(&[u8], &str); 40] = [
         (b"\tread\x0b2\x0c\r01738357 \r\n", "frame UA\n"),
         (b"read 1 -", "refused 1 short\n"),
         (b"write 1 I 0 0 0 -\n", "octets 01009f16\n"),
@@ -128,7 +128,6 @@ fn nothing_stands(rt: HostRuntime) -> Result<(), Fail> {
         (b"poll", "!error: no link stands\n"),
         (b"send primary -", "!error: no link stands\n"),
         (b"fetch primary", "!error: no link stands\n"),
-        (b"drain", "!error: no link stands\n"),
         (b"ask", "!error: no link stands\n"),
         (b"take 1", "!error: no line or link stands\n"),
         (b"strike 1 0 0 1", "!error: no line or link stands\n"),
@@ -179,14 +178,12 @@ fn line_stands(rt: HostRuntime) -> Result<(), Fail> {
 
 #[test]
 fn link_stands(rt: HostRuntime) -> Result<(), Fail> {
-    let lines: [(&[u8], &str); 19] = [
+    let lines: [(&[u8], &str); 17] = [
         (b"open", "ok put=1 lost=0\n"),
         (b"open now", TOO_MANY),
         (b"close 1", TOO_MANY),
         (b"poll 1", TOO_MANY),
         (b"tick 1", TOO_MANY),
-        (b"drain now", TOO_MANY),
-        (b"drain", "refused 18 mode\n"),
         (b"ask now", TOO_MANY),
         (b"send", END),
         (b"send primary", OCTETS),

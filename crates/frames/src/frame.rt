@@ -1,5 +1,5 @@
 // A frame that was read. The information of an I frame is lent from the octets that it was read from.
-#[derive(Clone, Copy)]
+#[derive(Clone, Copy, Debug)]
 pub enum Frame<'a> {
     I {
         ns: u8,

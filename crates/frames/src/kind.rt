@@ -1,5 +1,5 @@
 // The kinds of frame. RR and RNR tell a station's status, SARM and DISC ask, UA and DM answer.
-#[derive(Clone, Copy, PartialEq, Eq)]
+#[derive(Clone, Copy, PartialEq, Eq, Debug)]
 pub enum Kind {
     I,
     Rr,

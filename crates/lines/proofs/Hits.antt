@@ -1,9 +1,8 @@
 -- A strike at a place that holds a frame: what it answers, and what the line then means.
-use Rattle.std.proofs.Common.{◌≡◌, ℕ, zero, suc, ◌+◌, ◌<◌, ◌≤◌, false, cond, leb, List, [], ◌∷◌, set, is_ok, Some, Ok, Err, sym, ap, ◌∙◌, arith}
+use Rattle.std.proofs.Common.{◌≡◌, ℕ, zero, suc, ◌+◌, ◌<◌, ◌≤◌, false, cond, leb, List, [], ◌∷◌, set, is_ok, Some, Ok, sym, ap, ◌∙◌, arith}
 use Rattle.std.proofs.lemmas.Bool.{le-leb, ne_eqb}
 use Rattle.frames.specs.declared.way.Way.{Way}
 use Rattle.frames.specs.Parts.{Parts}
-use Rattle.lines.specs.declared.refusal.LineRefusal.{LineRefusal}
 use Rattle.lines.specs.Entries.{Entry, Lists, on, with_way, at, frame}
 use Rattle.lines.specs.Line.{bits, burst_by, strike_by, strike_answer, hit, hit_at, strike_leaves}
 
@@ -11,10 +10,6 @@ hit_set : (es : List Entry) (place : ℕ) (e : Entry) → at es place ≡ Some e
 hit_set [] place e s = let z : ◌≡◌ {A = ℕ} 0 1 = cc in absurd (omega arith)
 hit_set (x ∷ es) zero e s = let q : e ≡ x = cc in ap (λ y. hit y ∷ es) q
 hit_set (x ∷ es) (suc place) e s = ap (λ xs. x ∷ xs) (hit_set es place e s)
-
--- a strike that is refused leaves the line as it was
-pub refused_left : (l : Lists) (w : Way) (place start mask : ℕ) (e : LineRefusal) → Err e ≡ strike_answer l w place start mask → l ≡ strike_leaves l w place start mask
-refused_left l w place start mask e p = ap (λ r. cond (is_ok r) (with_way w (hit_at place (on w l)) l) l) p
 
 -- a burst on a frame that stands
 module _ (a : ℕ) (p : Parts) (start mask : ℕ) (lo : 0 < mask) where

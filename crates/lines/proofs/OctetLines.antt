@@ -1,5 +1,5 @@
 -- The octet line by its two rings: its bounds, its meaning once one ring has changed, its making, one record's turn.
-use Rattle.std.proofs.Common.{◌≡◌, ℕ, zero, suc, ◌+◌, ◌*◌, ◌/◌, ◌%◌, ◌<◌, ◌≤◌, Bool, true, cond, eqb, ltb, List, [], ◌∷◌, ◌++◌, map, length, get_or, drop, set, Some, None, Option, sym, refl, ap, ◌∙◌, subst, ap₂, arith}
+use Rattle.std.proofs.Common.{◌≡◌, ℕ, zero, suc, ◌+◌, ◌*◌, ◌/◌, ◌%◌, ◌<◌, ◌≤◌, Bool, true, cond, eqb, ltb, leb, List, [], ◌∷◌, ◌++◌, map, length, get_or, drop, set, Some, None, Option, sym, refl, ap, ◌∙◌, subst, ap₂, arith}
 use Rattle.std.specs.List.{AllByRecursion as All}
 use Rattle.std.proofs.lemmas.List.{length-map}
 use Rattle.std.proofs.lemmas.Bool.Decides.{nat_tests}
@@ -7,8 +7,8 @@ use Rattle.frames.specs.declared.way.Way.{Way}
 use Rattle.frames.specs.declared.way.Way.TheVariants.{One, Two}
 use Rattle.lines.specs.declared.ring.Ring.{Ring}
 use Rattle.lines.specs.declared.octets.OctetLine.{OctetLine}
-use Rattle.lines.specs.Entries.{Entry, with_way, at, Bounded}
-use Rattle.lines.specs.Octets.{cut, records, records_on, struck_records, FoundIn, places, Zeroed, octet_plain, octet_meaning}
+use Rattle.lines.specs.Entries.{Entry, Lists, with_way, at, Bounded}
+use Rattle.lines.specs.Octets.{cut, records, records_on, struck_records, FoundIn, places, Zeroed, octet_meaning}
 use Rattle.lines.specs.Packed.{age_in, burst, Neat, packed_entry}
 use Rattle.lines.specs.Ring.{size, held, free, Blanked}
 use Rattle.lines.specs.Stored.{fit, lists_by, age, aged, turned}
@@ -32,6 +32,15 @@ whole_of r h = let g = go (length (held r) % 72) (size r / 72) h in record { eve
     go : (x y : ℕ) → cond (eqb x 0) y 65 ≤ 64 → (x ≡ 0) × (cond (eqb x 0) y 65 ≡ y)
     go x y h = (grind (arith, nat_tests), grind (arith, nat_tests))
 
+-- the lists of the records, as they stand
+abbrev pub plain : OctetLine → Lists
+plain t = record {
+  one = map (packed_entry One) (records t.one);
+  two = map (packed_entry Two) (records t.two);
+  capacity = places t.one;
+  lifetime = t.lifetime;
+}
+
 module _ (t : OctetLine) where
   module _ (h : fit (places t.one) (places t.two) t.lifetime ≡ true) where
     pub whole_one : Whole t.one
@@ -44,18 +53,18 @@ module _ (t : OctetLine) where
   within r w e = omega (arith, length-map (records r) (packed_entry w), cut_length (held r), held_fit r, e.room)
 
   pub octet_bounded : Bounded (octet_meaning t)
-  octet_bounded = by_bounded (places t.two) (octet_plain t) (λ h. within t.one One (whole_one h)) (λ h. within t.two Two (whole_two h))
+  octet_bounded = by_bounded (places t.two) (plain t) (λ h. within t.one One (whole_one h)) (λ h. within t.two Two (whole_two h))
 
   -- one ring holds other records in as many slots
   module _ (r : Ring ℕ) (es : List Entry) where
     pub with_one : length (held r) % 72 ≡ length (held t.one) % 72 → size r ≡ size t.one → map (packed_entry One) (records r) ≡ es →
-        octet_meaning (record { one = r; two = t.two; lifetime = t.lifetime }) ≡ lists_by (places t.two) (with_way One es (octet_plain t))
+        octet_meaning (record { one = r; two = t.two; lifetime = t.lifetime }) ≡ lists_by (places t.two) (with_way One es (plain t))
     with_one e k h =
         ap₂ (λ m zs. lists_by (places t.two) (record { one = zs; two = map (packed_entry Two) (records t.two); capacity = m; lifetime = t.lifetime }))
         (places_kept t.one r e k) h
 
     pub with_two : length (held r) % 72 ≡ length (held t.two) % 72 → size r ≡ size t.two → map (packed_entry Two) (records r) ≡ es →
-        octet_meaning (record { one = t.one; two = r; lifetime = t.lifetime }) ≡ lists_by (places t.two) (with_way Two es (octet_plain t))
+        octet_meaning (record { one = t.one; two = r; lifetime = t.lifetime }) ≡ lists_by (places t.two) (with_way Two es (plain t))
     with_two e k h =
         ap₂ (λ n zs. lists_by n (record { one = map (packed_entry One) (records t.one); two = zs; capacity = places t.one; lifetime = t.lifetime }))
         (places_kept t.two r e k) h
@@ -65,9 +74,16 @@ pub no_records : cut [] ≡ []
 unfolding cut
 no_records = refl
 
-module _ (r : Ring ℕ) (e : held r ≡ []) where
-  pub made_places : (k : ℕ) → size r ≡ 72 * k → places r ≡ k
-  made_places k q = ap₂ (λ es y. cond (eqb (length es % 72) 0) (y / 72) 65) e q ∙ (let z : 72 * k / 72 ≡ k = omega arith in z)
+module _ (r : Ring ℕ) (k len : ℕ) (e : held r ≡ []) (q : size r ≡ cond (leb (72 * k) len) (72 * k) 0) where
+  pub made_places : places r ≡ cond (leb k (len / 72)) k 0
+  made_places =
+      ap₂ (λ es y. cond (eqb (length es % 72) 0) (y / 72) 65) e q
+      ∙ (let z : cond (leb (72 * k) len) (72 * k) 0 / 72 ≡ cond (leb k (len / 72)) k 0 = grind (arith, nat_tests) in z)
+
+  pub made_slots : (n : ℕ) → places r ≡ n → size r ≡ 72 * n
+  made_slots n p =
+      let b : cond (leb (72 * k) len) (72 * k) 0 ≡ 72 * cond (leb k (len / 72)) k 0 = grind (arith, nat_tests) in
+      q ∙ b ∙ ap (λ y. 72 * y) (sym made_places ∙ p)
 
   pub made_zeroed : Blanked 0 r → Zeroed r
   made_zeroed b = record { free = b; held = subst (λ rs. All Neat rs) (sym (ap cut e ∙ no_records)) tt }

@@ -1,9 +1,9 @@
 -- A packed record: what packing writes, what reading it back finds, its age, and its frame once bits were turned over.
-use Rattle.std.proofs.Common.{◌≡◌, ℕ, zero, suc, ◌+◌, ◌*◌, ◌/◌, ◌%◌, ◌<◌, ◌≤◌, Bool, true, false, cond, not, ◌&&◌, ltb, List, [], ◌∷◌, ◌++◌, length, get_or, take, drop, set, replicate, is_ok, Ok, Err, Result, sym, refl, ap, ◌∙◌, subst, arith}
+use Rattle.std.proofs.Common.{◌≡◌, ℕ, zero, suc, ◌+◌, ◌*◌, ◌/◌, ◌%◌, ◌<◌, ◌≤◌, Bool, true, false, not, ◌&&◌, ltb, leb, List, [], ◌∷◌, ◌++◌, length, get_or, take, drop, set, replicate, is_ok, Some, Ok, Err, Result, sym, refl, ap, ◌∙◌, subst, ap₂, arith}
 use Rattle.std.specs.List.{AllByRecursion as All}
 use Rattle.std.proofs.lemmas.List.{length-drop, length-take, length-append, append_assoc, take-append-le, take_at, drop_at}
 use Rattle.std.proofs.ByRecursion.{All-push, All-drop}
-use Rattle.std.proofs.lemmas.Bool.{lt-ltb, le-ltb, ltb-false}
+use Rattle.std.proofs.lemmas.Bool.{lt-ltb, le-ltb, ne_eqb, ltb-false}
 use Rattle.frames.specs.declared.way.Way.{Way}
 use Rattle.frames.specs.declared.refusal.FrameRefusal.{FrameRefusal}
 use Rattle.frames.specs.Parts.{Parts, parts, info_of}
@@ -13,13 +13,14 @@ use Rattle.frames.specs.Refusals.{refuse}
 use Rattle.frames.specs.declared.refusal.FrameRefusal.TheVariants.{Long, NoSpace}
 use Rattle.frames.specs.Writer.{laid, octets_of, octets_by, frame_octets, admit_answer, fitted, counted, write_answer, write_leaves}
 use Rattle.frames.specs.Laws.{ReadsBack}
-use Rattle.frames.specs.Bits.{strike_leaves}
+use Rattle.frames.specs.Bits.{strike_answer}
 use Rattle.frames.proofs.Reading.{past}
 use Rattle.frames.proofs.Writing.{octets_length}
-use Rattle.lines.specs.Entries.{struck, frame}
-use Rattle.lines.specs.Line.{burst_by, hit}
-use Rattle.lines.specs.Packed.{age_in, frame_in, burst, Neat, entry_read, packed_entry, Packs}
+use Rattle.lines.specs.Entries.{Entry, struck, frame}
+use Rattle.lines.specs.Line.{bits, burst_by, strike_by, hit}
+use Rattle.lines.specs.Packed.{age_in, frame_in, Neat, entry_read, packed_entry, Packs}
 use Rattle.lines.specs.Stored.{age, aged}
+use Rattle.lines.proofs.Hits.{by_burst}
 
 -- ---- the sizes of a frame that can be written
 pub record Sized (os : List ℕ) (p : Parts) : Type 0 where
@@ -90,11 +91,15 @@ packed_age w r = go (read_answer w (frame_in r))
     go (Err e) = refl
 
 -- ---- bits turned over
--- a burst is granted where the frame's own strike answers yes
-pub burst_ok : (x y : Bool) → is_ok (burst_by x y) ≡ (not x && y)
-burst_ok true y = refl
-burst_ok false true = refl
-burst_ok false false = refl
+module _ (a : ℕ) (p : Parts) (start mask : ℕ) (lo : 0 < mask) where
+  struck_bits : (len : ℕ) → len ≡ 4 + length (info_of p) → strike_answer len start mask ≡ leb (start + 16) (bits p)
+  struck_bits len e = ap₂ (λ m k. not m && leb (start + 16) (8 * k)) (ne_eqb mask 0 (λ z. omega arith)) e
+
+  -- what the frame's own strike answers is what the entry's does
+  pub burst_told : (e : Entry) (len : ℕ) (t : Bool) → e ≡ frame a p → len ≡ 4 + length (info_of p) → strike_answer len start mask ≡ t →
+      burst_by false t ≡ strike_by (Some e) start mask
+  burst_told e len t h n q =
+      sym (ap (λ x. strike_by (Some x) start mask) h ∙ by_burst a p start mask lo ∙ ap (burst_by false) (sym (struck_bits len n) ∙ q))
 
 module _ (w : Way) (m : ℕ) where
   -- the entry, after octets that do not read took the place of the frame's
@@ -118,18 +123,6 @@ module _ (w : Way) (m : ℕ) where
   -- put back as it was
   pub hit_none : (r ys : List ℕ) → ys ≡ take m (drop 3 r) → put_mid 3 m r ys ≡ r
   hit_none r ys e = ap (put_mid 3 m r) e ∙ put_same 3 m r
-
-  -- either, by whether the burst was granted
-  pub burst_entry : (r ys : List ℕ) (p : Parts) (x : FrameRefusal) (t : Bool) → length r ≡ 72 → m ≡ get_or r 0 0 → length ys ≡ m → packed_entry w r ≡ frame (age_in r) p →
-      (t ≡ true → read_answer w ys ≡ Err x) → (t ≡ false → ys ≡ take m (drop 3 r)) → packed_entry w (put_mid 3 m r ys) ≡ cond t (hit (packed_entry w r)) (packed_entry w r)
-  burst_entry r ys p x true l e n f h s = hit_entry r ys p x l e n f (h refl)
-  burst_entry r ys p x false l e n f h s = ap (packed_entry w) (hit_none r ys (s refl))
-
-  pub burst_flips : (r ys : List ℕ) (start mask : ℕ) (t : Bool) → m ≡ get_or r 0 0 → ys ≡ strike_leaves start mask (take m (drop 3 r)) → (t ≡ false → ys ≡ take m (drop 3 r)) →
-      put_mid 3 m r ys ≡ cond t (burst start mask r) r
-  burst_flips r ys start mask true e h s =
-      ap (λ zs. take 3 r ++ (zs ++ drop m (drop 3 r))) h ∙ ap (λ k. take 3 r ++ (strike_leaves start mask (take k (drop 3 r)) ++ drop k (drop 3 r))) e
-  burst_flips r ys start mask false e h s = hit_none r ys (s refl)
 
 -- ---- packing
 record Written (x : Result (List ℕ) FrameRefusal) (zs : List ℕ) (n : ℕ) : Type 0 where
@@ -169,13 +162,11 @@ module _ (w : Way) (p : Parts) (zs out : List ℕ) where
       let l : n ≤ length out = omega (arith, x.count, ap length e, length-append x.os (drop (length x.os) zs)) in
       let tail : drop n (out ++ 0 ∷ []) ≡ drop (length x.os) zs ++ 0 ∷ [] =
       ap (λ y. drop n (y ++ 0 ∷ [])) e ∙ ap (drop n) (append_assoc x.os (drop (length x.os) zs) (0 ∷ []))
-      ∙ drop_at x.os (drop (length x.os) zs ++ 0 ∷ []) n (sym x.count) in
-      record {
-        control = c.0;
-        admits = sym c.1;
-        means = ap (λ y. entry_read 0 (read_answer w y)) (take-append-le n out (0 ∷ []) l) ∙ ap (entry_read 0) (b n refl);
-        neat = subst (λ y. All (λ o. o ≡ 0) y) (sym tail) (All-push (λ o. o ≡ 0) (drop (length x.os) zs) 0 (All-drop (λ o. o ≡ 0) (length x.os) zs h) refl);
-      }
+      ∙ drop_at x.os (drop (length x.os) zs ++ 0 ∷ []) n (sym x.count) in (
+        ap is_ok c.1,
+        ap (λ y. entry_read 0 (read_answer w y)) (take-append-le n out (0 ∷ []) l) ∙ ap (entry_read 0) (b n refl),
+        subst (λ y. All (λ o. o ≡ 0) y) (sym tail) (All-push (λ o. o ≡ 0) (drop (length x.os) zs) 0 (All-drop (λ o. o ≡ 0) (length x.os) zs h) refl),
+      )
 
 pub pack_err : (w : Way) (p : Parts) (e : FrameRefusal) (room : ℕ) → 68 ≤ room → Err e ≡ write_answer w p room → admit_answer w p ≡ Err e
 pack_err w p e room l h = go (admit_answer w p) refl

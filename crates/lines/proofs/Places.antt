@@ -3,8 +3,7 @@ use Rattle.std.proofs.Common.{◌≡◌, ℕ, zero, suc, ◌+◌, ◌-◌, ◌<�
 use lib.Seq.{take-set-lt}
 use Rattle.std.proofs.lemmas.List.{length-set, length-drop, length-take-le, get_or-take, drop-set-lt, take_more_set, drop-take, drop-drop, take-append-le, drop-append-le}
 use Rattle.lines.specs.Entries.{at}
-use Rattle.lines.specs.Ring.{lane, slot, Spans}
-use Rattle.lines.specs.declared.ring.Ring.{Ring}
+use Rattle.lines.specs.Ring.{lane, slot}
 use Rattle.lines.proofs.Lanes.{lane_length, lane_set, lane_at, lane_pop}
 
 module _ {E : Type 0} where
@@ -25,9 +24,6 @@ module _ {E : Type 0} where
     pub starts : first ≤ cap
     pub holds : count ≤ cap
 
-  pub within : (r : Ring E) (cap first count : ℕ) → Spans r cap first count → Within r.slots.now cap first count
-  within r cap first count t = record { fits = t.fits; starts = t.starts; holds = t.fills }
-
   module _ (s : List E) (cap first count : ℕ) (w : Within s cap first count) where
     pub lane_full : length (lane s cap first) ≡ cap
     lane_full = lane_length s cap first ∙ (let f = w.fits in omega arith)
@@ -41,6 +37,9 @@ module _ {E : Type 0} where
         let b = get_or-take count (lane s cap first) i x h in
         let l = lane_at s cap first i p x w.fits w.starts (let z = w.holds in omega arith) q in
         cc
+
+    pub held_none : (i : ℕ) → count ≤ i → None ≡ at (take count (lane s cap first)) i
+    held_none i h = sym (at_none (take count (lane s cap first)) i (omega (arith, held_length)))
 
     pub held_put : (i p : ℕ) (e : E) → i < count → p ≡ slot cap first i → take count (lane (set s p e) cap first) ≡ set (take count (lane s cap first)) i e
     held_put i p e h q = ap (λ y. take count y) (lane_set s cap first i p e w.fits w.starts (let z = w.holds in omega arith) q) ∙ take-set-lt count (lane s cap first) i e h
@@ -73,19 +72,3 @@ module _ {E : Type 0} where
 
   pub size_kept : (s : List E) (p cap k : ℕ) (e : E) → cap ≤ length s → cap ≡ k → min cap (length (set s p e)) ≡ k
   size_kept s p cap k e l q = simp length-set (omega arith)
-
-  -- a ring whose own numbers lie within its memory, after a write to a slot
-  pub spans_set : (s : List E) (p : ℕ) (e : E) (r : Ring E) (w : Within s r.cap r.first r.count) → r.slots.now ≡ set s p e → Spans r r.cap r.first r.count
-  spans_set s p e r w q =
-      let l : length r.slots.now ≡ length s = ap length q ∙ length-set s p e in
-      let f : r.cap ≤ length r.slots.now = let z = w.fits in omega arith in
-      record {
-        fits = f;
-        starts = w.starts;
-        fills = w.holds;
-        holds = refl;
-        frees = refl;
-        counts = sym (held_length r.slots.now r.cap r.first r.count (record { fits = f; starts = w.starts; holds = w.holds }));
-        slots = omega arith;
-        rest = refl;
-      }

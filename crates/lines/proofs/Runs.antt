@@ -1,7 +1,7 @@
 -- Runs of elements added, copied out and written over one by one, and what several calls keep together.
-use Rattle.std.proofs.Common.{◌≡◌, ℕ, zero, suc, ◌+◌, ◌<◌, ◌≤◌, Bool, cond, ltb, List, [], ◌∷◌, ◌++◌, length, get_or, take, drop, set, Some, sym, refl, ap, ◌∙◌, ap₂, arith}
+use Rattle.std.proofs.Common.{◌≡◌, ℕ, zero, suc, ◌+◌, ◌<◌, ◌≤◌, Bool, cond, ltb, List, [], ◌∷◌, ◌++◌, length, get_or, take, drop, set, Some, None, Option, sym, refl, ap, ◌∙◌, ap₂, arith}
 use lib.Seq.{append_snoc, paste}
-use Rattle.std.proofs.lemmas.List.{get_or-drop, length-drop, length-take, length-append, length-take-le, take_all, drop_all, append-nil, append_assoc, take_more, drop_more, set_at}
+use Rattle.std.proofs.lemmas.List.{length-take, length-append, length-take-le, take_all, drop_all, append-nil, append_assoc, take_more, drop_more, set_at}
 use Rattle.std.proofs.lemmas.Bool.{cond-true, lt-ltb}
 use Rattle.lines.specs.Entries.{at}
 use Rattle.lines.specs.Ring.{lane, laid, size, held, Kept}
@@ -9,7 +9,16 @@ use Rattle.lines.specs.declared.ring.Ring.{Ring}
 use Rattle.lines.proofs.Lanes.{lane_length}
 
 module _ {E : Type 0} where
-  -- ---- runs of what is held
+  abbrev pub or_else : Option E → E → E
+  or_else (Some x) d = x
+  or_else None d = d
+
+  -- ---- runs of held
+  pub got_or : (xs : List E) (i : ℕ) (d : E) (o : Option E) → o ≡ at xs i → or_else o d ≡ get_or xs i d
+  got_or [] i d o e = ap (λ x. or_else x d) e
+  got_or (x ∷ xs) zero d o e = ap (λ y. or_else y d) e
+  got_or (x ∷ xs) (suc i) d o e = got_or xs i d o e
+
   pub push_more : (xs cur nxt t : List E) (i cap : ℕ) (r : Bool) (x : E) → i < length t → length xs + length t ≤ cap → cur ≡ xs ++ take i t → r ≡ ltb (length cur) cap → x ≡ get_or t i x →
       nxt ≡ cond r (cur ++ x ∷ []) cur → nxt ≡ xs ++ take (i + 1) t
   push_more xs cur nxt t i cap r x h l e q g p =
@@ -20,25 +29,11 @@ module _ {E : Type 0} where
   pub push_all : (xs cur t : List E) (i : ℕ) → length t ≤ i → cur ≡ xs ++ take i t → cur ≡ xs ++ t
   push_all xs cur t i h e = e ∙ ap (λ k. xs ++ k) (take_all i t h)
 
-  copy_more : (s o : List E) (j : ℕ) (d : E) → j < length s → j < length o → set (take j s ++ drop j o) j (get_or s j d) ≡ take (j + 1) s ++ drop (j + 1) o
+  pub copy_more : (s o : List E) (j : ℕ) (d : E) → j < length s → j < length o → set (take j s ++ drop j o) j (get_or s j d) ≡ take (j + 1) s ++ drop (j + 1) o
   copy_more s o j d h l =
       ap (λ y. set (take j s ++ y) j (get_or s j d)) (drop_more o j d l)
       ∙ set_at (take j s) (get_or o j d) (drop (j + 1) o) (get_or s j d) j (length-take-le j s (omega arith))
       ∙ sym (append_snoc (take j s) (get_or s j d) (drop (j + 1) o)) ∙ ap (λ y. y ++ drop (j + 1) o) (sym (take_more s j d h))
-
-  -- what stands at a place, as get_or has it
-  got : (x : E) (es : List E) (i : ℕ) → Some x ≡ at es i → (i < length es) × (x ≡ get_or es i x)
-  got x [] i p = let z : ◌≡◌ {A = ℕ} 0 1 = cc in absurd (omega arith)
-  got x (y ∷ es) zero p = (omega arith, cc)
-  got x (y ∷ es) (suc i) p = let r = got x es i p in (let h = r.0 in omega arith, r.1)
-
-  -- one more place copied out
-  pub copy_found : (es o out : List E) (from j : ℕ) (x : E) → Some x ≡ at es (from + j) → j < length o → out ≡ take j (drop from es) ++ drop j o →
-      set out j x ≡ take (j + 1) (drop from es) ++ drop (j + 1) o
-  copy_found es o out from j x f l e =
-      let g = got x es (from + j) f in
-      let h : from + j < length es = g.0 in
-      ap₂ (λ y z. set y j z) e (g.1 ∙ sym (get_or-drop from es j x)) ∙ copy_more (drop from es) o j x (simp length-drop (omega arith)) l
 
   pub copy_all : (s o : List E) (j n : ℕ) → length o ≤ j → j ≡ n → take j s ++ drop j o ≡ take n s
   copy_all s o j n h e = ap (λ y. take j s ++ y) (drop_all j o h) ∙ append-nil (take j s) ∙ ap (λ k. take k s) e

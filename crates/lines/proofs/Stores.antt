@@ -1,16 +1,16 @@
 -- How calls on the store of one way show in the meaning of the line that two stores make.
-use Rattle.std.proofs.Common.{◌≡◌, ℕ, zero, suc, ◌≤◌, Bool, true, false, cond, ltb, leb, List, [], ◌∷◌, ◌++◌, map, length, Some, None, Ok, Err, sym, refl, ap, ◌∙◌, ap₂, arith}
+use Rattle.std.proofs.Common.{◌≡◌, ℕ, zero, suc, ◌≤◌, Bool, true, false, cond, ltb, leb, List, [], ◌∷◌, ◌++◌, map, length, None, Ok, Err, Result, sym, refl, ap, ◌∙◌, ap₂, arith}
 use Rattle.std.specs.Option.{option_map}
 use Rattle.std.proofs.lemmas.List.{map-append}
 use Rattle.std.proofs.lemmas.Bool.Decides.{nat_tests}
-use Rattle.std.proofs.lemmas.Bool.{cond-true, cond-false, le-leb}
-use Rattle.lines.specs.declared.refusal.LineRefusal.TheVariants.{Idle}
-use Rattle.frames.specs.Parts.{Parts}
+use Rattle.std.proofs.lemmas.Bool.{cond-true, cond-false}
 use Rattle.frames.specs.declared.way.Way.{Way}
 use Rattle.frames.specs.declared.way.Way.TheVariants.{One, Two}
-use Rattle.lines.specs.Entries.{Entry, struck, frame, Lists, on, with_way, at, Bounded}
-use Rattle.lines.specs.Line.{oldest, take_leaves, tick_leaves, measured, dead, empty, made}
-use Rattle.lines.specs.Stored.{fit, lists_by, Told}
+use Rattle.lines.specs.declared.refusal.LineRefusal.{LineRefusal}
+use Rattle.lines.specs.declared.refusal.LineRefusal.TheVariants.{Measure}
+use Rattle.lines.specs.Entries.{Entry, Lists, on, with_way, at, Bounded}
+use Rattle.lines.specs.Line.{take_leaves, tick_leaves, measured, check_answer, dead, made}
+use Rattle.lines.specs.Stored.{fit, lists_by}
 
 pub fit_parts : (m n d : ℕ) → fit m n d ≡ true → (m ≡ n) × (m ≤ 64) × (1 ≤ d) × (d ≤ 1000)
 fit_parts m n d h = (grind (arith, nat_tests), grind (arith, nat_tests), grind (arith, nat_tests), grind (arith, nat_tests))
@@ -33,6 +33,9 @@ module _ (l : Lists) (w : Way) (e : l ≡ dead) where
   pub dead_at : (i : ℕ) → None ≡ at (on w l) i
   dead_at i = sym (ap (λ k. at (on w k) i) e ∙ ap (λ xs. at xs i) (on_dead w))
 
+  pub dead_length : 0 ≡ length (on w l)
+  dead_length = sym (ap (λ k. length (on w k)) e ∙ ap length (on_dead w))
+
   pub dead_full : false ≡ ltb (length (on w l)) l.capacity
   dead_full = sym (ap (λ k. ltb (length (on w k)) k.capacity) e ∙ ap (λ xs. ltb (length xs) 0) (on_dead w))
 
@@ -52,9 +55,6 @@ module _ (n : ℕ) (l : Lists) where
   pub by_false : fit l.capacity n l.lifetime ≡ false → lists_by n l ≡ dead
   unfolding lists_by
   by_false h = cond-false (fit l.capacity n l.lifetime) _ _ h
-
-  pub told_by : (b : Bool) → b ≡ fit l.capacity n l.lifetime → Bounded (lists_by n l) → Told (lists_by n l) l b
-  told_by b e h = record { live = λ t. by_true (sym e ∙ t); gone = λ f. by_false (sym e ∙ f); bounds = h }
 
   -- a change of one way's list that leaves the empty list as it is
   pub change : (w : Way) (f : List Entry → List Entry) → f [] ≡ [] →
@@ -124,25 +124,53 @@ module _ {A : Type 0} (f : A → Entry) where
   at_mapped (e ∷ es) zero = refl
   at_mapped (e ∷ es) (suc i) = at_mapped es i
 
--- ---- the oldest entry, by what stands at place 0
-pub none_oldest : (es : List Entry) → None ≡ at es 0 → Err Idle ≡ oldest es
-none_oldest [] p = refl
-none_oldest (e ∷ es) p = let z : ◌≡◌ {A = ℕ} 0 1 = cc in absurd (omega arith)
-
-pub frame_oldest : (es : List Entry) (a : ℕ) (f : Parts) → Some (frame a f) ≡ at es 0 → Ok f ≡ oldest es
-frame_oldest [] a f p = let z : ◌≡◌ {A = ℕ} 0 1 = cc in absurd (omega arith)
-frame_oldest (struck b ∷ es) a f p = let z : ◌≡◌ {A = ℕ} 0 1 = cc in absurd (omega arith)
-frame_oldest (frame b g ∷ es) a f p = let q : f ≡ g = cc in ap Ok q
-
 -- ---- a line that was just made
-pub room_made : (k m a : ℕ) → k ≤ m → a ≡ cond (leb k m) k 0 → a ≡ k
-room_made k m a h e = e ∙ cond-true (leb k m) _ _ (le-leb k m h)
+granted : (b : Bool) (u : Unit {0}) → ◌≡◌ {A = Result (Unit {0}) LineRefusal} (Ok u) (cond b (Ok tt) (Err Measure)) → b ≡ true
+granted true u e = refl
+granted false u e = let q : ◌≡◌ {A = ℕ} 0 1 = cc in absurd (omega arith)
 
-pub made_is : (k d m n : ℕ) → measured k d m n ≡ true → made k d m n ≡ empty k d
-made_is k d m n h = cond-true (measured k d m n) _ _ h
+refused : (b : Bool) (x : LineRefusal) → ◌≡◌ {A = Result (Unit {0}) LineRefusal} (Err x) (cond b (Ok tt) (Err Measure)) → b ≡ false
+refused true x e = let q : ◌≡◌ {A = ℕ} 0 1 = cc in absurd (omega arith)
+refused false x e = refl
 
-pub empty_by : (k d a b : ℕ) → a ≡ k → b ≡ k → fit k k d ≡ true → lists_by b (empty a d) ≡ empty k d
-empty_by k d a b x y h = ap₂ (λ i j. lists_by j (empty i d)) x y ∙ by_true k (empty k d) h
+room_made : (k m a : ℕ) → k ≤ m → a ≡ cond (leb k m) k 0 → a ≡ k
+room_made k m a h e = grind (arith, nat_tests)
+
+room_none : (m a : ℕ) → a ≡ cond (leb 0 m) 0 0 → a ≡ 0
+room_none m a e = grind (arith, nat_tests)
+
+abbrev pub empty : ℕ → ℕ → Lists
+empty k d = record { one = []; two = []; capacity = k; lifetime = d }
+
+pub record Made (k d m n a b e : ℕ) : Type 0 where
+  pub lists : lists_by b (empty a e) ≡ made k d m n
+  pub one : a ≡ (made k d m n).capacity
+  pub two : b ≡ (made k d m n).capacity
+
+pub short_life : (k d m n : ℕ) (u : Unit {0}) → Ok u ≡ check_answer k d m n → d ≤ 1000
+short_life k d m n u e = let h : measured k d m n ≡ true = granted (measured k d m n) u e in grind (arith, nat_tests)
+
+module _ (k d m n a b : ℕ) where
+  pub made_ok : (u : Unit {0}) → Ok u ≡ check_answer k d m n → a ≡ cond (leb k m) k 0 → b ≡ cond (leb k n) k 0 → Made k d m n a b d
+  made_ok u e p q =
+      let h : measured k d m n ≡ true = granted (measured k d m n) u e in
+      let km : k ≤ m = grind (arith, nat_tests) in
+      let kn : k ≤ n = grind (arith, nat_tests) in
+      let f : fit k k d ≡ true = grind (arith, nat_tests) in
+      let l : made k d m n ≡ empty k d = cond-true (measured k d m n) _ _ h in
+      let r : k ≡ (made k d m n).capacity = sym (ap (λ z. z.capacity) l) in
+      let x : a ≡ k = room_made k m a km p in
+      let y : b ≡ k = room_made k n b kn q in
+      record { lists = ap₂ (λ i j. lists_by j (empty i d)) x y ∙ by_true k (empty k d) f ∙ sym l; one = x ∙ r; two = y ∙ r }
+
+  pub made_err : (x : LineRefusal) → Err x ≡ check_answer k d m n → a ≡ cond (leb 0 m) 0 0 → b ≡ cond (leb 0 n) 0 0 → Made k d m n a b 1
+  made_err x e p q =
+      let h : measured k d m n ≡ false = refused (measured k d m n) x e in
+      let l : made k d m n ≡ dead = cond-false (measured k d m n) _ _ h in
+      let r : 0 ≡ (made k d m n).capacity = sym (ap (λ z. z.capacity) l) in
+      let x : a ≡ 0 = room_none m a p in
+      let y : b ≡ 0 = room_none n b q in
+      record { lists = ap₂ (λ i j. lists_by j (empty i 1)) x y ∙ by_true 0 (empty 0 1) refl ∙ sym l; one = x ∙ r; two = y ∙ r }
 
 -- ---- what two stores keep
 pub pair_by : {E : Type 0} {x y x' y' : List E} → x' ≡ x → y' ≡ y → ◌≡◌ {A = List E × List E} (x', y') (x, y)

@@ -7,28 +7,32 @@ use Rattle.frames.specs.Blocks.{parts_in}
 use Rattle.lines.specs.declared.ring.Ring.{Ring}
 use Rattle.lines.specs.declared.record.Record.{Record}
 use Rattle.lines.specs.declared.table.TableLine.{TableLine}
-use Rattle.lines.specs.Entries.{Entry, with_way, Bounded, frame}
+use Rattle.lines.specs.Entries.{Entry, Lists, with_way, Bounded, frame}
 use Rattle.lines.specs.Record.{entry_by, entry_of}
 use Rattle.lines.specs.Ring.{size, held}
 use Rattle.lines.specs.Stored.{lists_by, age, aged}
-use Rattle.lines.specs.Table.{table_plain, table_meaning}
+use Rattle.lines.specs.Table.{table_meaning}
 use Rattle.lines.proofs.Runs.{held_fit}
 use Rattle.lines.proofs.Stores.{by_bounded}
 
+-- the lists of the records, as they stand
+abbrev pub plain : TableLine → Lists
+plain t = record { one = map entry_of (held t.one); two = map entry_of (held t.two); capacity = size t.one; lifetime = t.lifetime }
+
 pub table_bounded : (t : TableLine) → Bounded (table_meaning t)
 table_bounded t =
-    by_bounded (size t.two) (table_plain t)
+    by_bounded (size t.two) (plain t)
     (λ e. omega (arith, length-map (held t.one) entry_of, held_fit t.one))
     (λ e. omega (arith, length-map (held t.two) entry_of, held_fit t.two))
 
 -- one ring holds other records in as many slots
 pub with_one : (t : TableLine) (r : Ring Record) (es : List Entry) → size r ≡ size t.one → map entry_of (held r) ≡ es →
-    table_meaning (record { one = r; two = t.two; lifetime = t.lifetime }) ≡ lists_by (size t.two) (with_way One es (table_plain t))
+    table_meaning (record { one = r; two = t.two; lifetime = t.lifetime }) ≡ lists_by (size t.two) (with_way One es (plain t))
 with_one t r es k h =
     ap₂ (λ m zs. lists_by (size t.two) (record { one = zs; two = map entry_of (held t.two); capacity = m; lifetime = t.lifetime })) k h
 
 pub with_two : (t : TableLine) (r : Ring Record) (es : List Entry) → size r ≡ size t.two → map entry_of (held r) ≡ es →
-    table_meaning (record { one = t.one; two = r; lifetime = t.lifetime }) ≡ lists_by (size t.two) (with_way Two es (table_plain t))
+    table_meaning (record { one = t.one; two = r; lifetime = t.lifetime }) ≡ lists_by (size t.two) (with_way Two es (plain t))
 with_two t r es k h =
     ap₂ (λ n zs. lists_by n (record { one = map entry_of (held t.one); two = zs; capacity = size t.one; lifetime = t.lifetime })) k h
 

@@ -103,10 +103,6 @@ measured k d one two = nat_le 8 k && nat_le k 64 && nat_le 1 d && nat_le d 1000 
 abbrev pub check_answer : ℕ → ℕ → ℕ → ℕ → Result (Unit {0}) LineRefusal
 check_answer k d one two = cond (measured k d one two) (Ok tt) (Err Measure)
 
--- a line that holds nothing
-abbrev pub empty : ℕ → ℕ → Lists
-empty k d = record { one = []; two = []; capacity = k; lifetime = d }
-
 -- the line of K = 0 and D = 1, which can hold nothing
 abbrev pub dead : Lists
 dead = record { one = []; two = []; capacity = 0; lifetime = 1 }

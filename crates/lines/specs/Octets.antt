@@ -53,17 +53,14 @@ abbrev pub FoundIn : List (List ℕ) → ℕ → Option (List ℕ) → Type 0
 FoundIn rs place None = Unit {0}
 FoundIn rs place (Some r) = at rs place ≡ Some r
 
--- the entries of its records, as they stand
-abbrev pub octet_plain : OctetLine → Lists
-octet_plain t = record {
+-- the entries of its records
+abbrev pub octet_meaning : OctetLine → Lists
+octet_meaning t = lists_by (places t.two) (record {
   one = map (packed_entry One) (records t.one);
   two = map (packed_entry Two) (records t.two);
   capacity = places t.one;
   lifetime = t.lifetime;
-}
-
-abbrev pub octet_meaning : OctetLine → Lists
-octet_meaning t = lists_by (places t.two) (octet_plain t)
+})
 
 -- what its memory holds behind the slots, a way each
 abbrev pub octet_beyond : OctetLine → List ℕ × List ℕ

@@ -1,5 +1,5 @@
 -- A packed record: the frame's length, its age in two octets, low one first, the frame's octets, and zeros behind; 72 octets.
-use Rattle.std.specs.Prelude.{◌≡◌, ℕ, ◌+◌, ◌*◌, List, ◌++◌, take, drop, Some, None, Ok, Err, Option, Result, slice_index}
+use Rattle.std.specs.Prelude.{◌≡◌, ℕ, ◌+◌, ◌*◌, true, List, ◌++◌, take, drop, is_ok, Some, None, Ok, Err, Option, Result, slice_index}
 use Rattle.std.specs.List.{AllByRecursion as All}
 use Rattle.frames.specs.declared.way.Way.{Way}
 use Rattle.frames.specs.declared.refusal.FrameRefusal.{FrameRefusal}
@@ -37,12 +37,6 @@ entry_told a (Some p) = frame a p
 entry_told a None = struck a
 
 -- what packing a frame's parts answers: a record of age 0, or what writing refuses
-pub record Packed (w : Way) (p : Parts) (r : List ℕ) : Type 0 where
-  pub control : ℕ
-  pub admits : Ok control ≡ admit_answer w p
-  pub means : packed_entry w r ≡ frame 0 p
-  pub neat : Neat r
-
 abbrev pub Packs : Way → Parts → Result (List ℕ) FrameRefusal → Type 0
-Packs w p (Ok r) = Packed w p r
+Packs w p (Ok r) = (is_ok (admit_answer w p) ≡ true) × (packed_entry w r ≡ frame 0 p) × Neat r
 Packs w p (Err e) = admit_answer w p ≡ Err e

@@ -1,5 +1,5 @@
 -- A ring: which slots it has, what it holds, and what every call keeps.
-use Rattle.std.specs.Prelude.{◌≡◌, ℕ, ◌+◌, ◌-◌, ◌≤◌, min, cond, List, ◌++◌, length, take, drop, nat_lt}
+use Rattle.std.specs.Prelude.{◌≡◌, ℕ, ◌+◌, ◌-◌, min, cond, List, ◌++◌, length, take, drop, nat_lt}
 use Rattle.std.specs.List.{AllByRecursion as All}
 use Rattle.lines.specs.declared.ring.Ring.{Ring}
 
@@ -30,17 +30,6 @@ behind r = drop r.cap r.slots.now
 -- each slot that holds nothing is blank
 abbrev pub Blanked : {E : Type 0} → E → Ring E → Type 0
 Blanked b r = All (λ x. x ≡ b) (free r)
-
--- numbers that lie within a ring's memory and mean what its own mean
-pub record Spans {E : Type 0} (r : Ring E) (cap first count : ℕ) : Type 0 where
-  pub fits : cap ≤ length r.slots.now
-  pub starts : first ≤ cap
-  pub fills : count ≤ cap
-  pub holds : held r ≡ take count (lane r.slots.now cap first)
-  pub frees : free r ≡ drop count (lane r.slots.now cap first)
-  pub counts : count ≡ length (held r)
-  pub slots : cap ≡ size r
-  pub rest : behind r ≡ drop cap r.slots.now
 
 -- what each call keeps: how many slots there are, the memory behind them, and that free slots are blank
 pub record Kept {E : Type 0} (b : E) (r s : Ring E) : Type 0 where

@@ -1,6 +1,6 @@
 -- What the stores of a line's two ways mean together, an entry's age, and one entry's turn in a tick.
-use Rattle.std.specs.Prelude.{◌≡◌, ℕ, Bool, true, false, cond, ◌&&◌, List, [], ◌∷◌, ◌++◌, ◌==◌, nat_le}
-use Rattle.lines.specs.Entries.{Entry, struck, frame, Lists, Bounded}
+use Rattle.std.specs.Prelude.{ℕ, Bool, cond, ◌&&◌, List, [], ◌∷◌, ◌++◌, ◌==◌, nat_le}
+use Rattle.lines.specs.Entries.{Entry, struck, frame, Lists}
 use Rattle.lines.specs.Line.{dead, older}
 
 -- stores with room for m entries on way 1 and n on way 2 make a line of lifetime d
@@ -10,12 +10,6 @@ fit m n d = m == n && nat_le m 64 && nat_le 1 d && nat_le d 1000
 -- the lists of two stores, way 2 with room for n; where they make no line it is dead, so that any fields mean some line
 unfoldable pub lists_by : ℕ → Lists → Lists
 lists_by n l = cond (fit l.capacity n l.lifetime) l dead
-
--- what is known of such a line's meaning, by whether its stores make a line
-pub record Told (l plain : Lists) (sound : Bool) : Type 0 where
-  pub live : sound ≡ true → l ≡ plain
-  pub gone : sound ≡ false → l ≡ dead
-  pub bounds : Bounded l
 
 -- the age of an entry, and the entry at another age
 abbrev pub age : Entry → ℕ

@@ -7,17 +7,14 @@ use Rattle.lines.specs.Record.{blank_record, entry_of}
 use Rattle.lines.specs.declared.record.Record.{Record}
 use Rattle.lines.specs.declared.table.TableLine.{TableLine}
 
--- the entries of its records, as they stand
-abbrev pub table_plain : TableLine → Lists
-table_plain t = record {
+-- the entries of its records
+abbrev pub table_meaning : TableLine → Lists
+table_meaning t = lists_by (size t.two) (record {
   one = map entry_of (held t.one);
   two = map entry_of (held t.two);
   capacity = size t.one;
   lifetime = t.lifetime;
-}
-
-abbrev pub table_meaning : TableLine → Lists
-table_meaning t = lists_by (size t.two) (table_plain t)
+})
 
 -- what its memory holds behind the slots, a way each
 abbrev pub table_beyond : TableLine → List Record × List Record

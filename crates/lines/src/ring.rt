@@ -29,11 +29,3 @@ pub struct Ring<'a, E: Blank> {
     count: usize,
     cap: usize,
 }
-
-// A ring's numbers, brought within its memory.
-#[derive(Clone, Copy)]
-struct Bounds {
-    cap: usize,
-    first: usize,
-    count: usize,
-}

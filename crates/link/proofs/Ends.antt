@@ -9,7 +9,7 @@ use Rattle.stations.specs.Puts.{put, put_by, plain, inform, status, again, again
 use Rattle.stations.specs.Rule.{Heard, heard_i, hear_i, heard_s, hear_s}
 use Rattle.stations.specs.Primary.{Timer, resend_by}
 use Rattle.stations.specs.Secondary.{final_by}
-use Rattle.link.specs.Account.{Tally, accept, acknowledge, fetch, take_in_by}
+use Rattle.link.specs.History.{Tally, accept, acknowledge, fetch, take_in_by}
 use Rattle.link.specs.Calls.{some}
 use Rattle.link.specs.Promise.{Direction}
 use Rattle.link.proofs.Modulo.{same_count}

@@ -7,8 +7,7 @@ use Rattle.stations.specs.Primary.{Timer}
 use Rattle.link.specs.declared.end.End.TheVariants.{Primary, Secondary}
 use Rattle.link.specs.State.{Measures, State, state}
 use Rattle.link.specs.Calls.{fetched_by}
-use Rattle.link.specs.Singles.{fetches}
-use Rattle.link.specs.Account.{Tally, Account, account, fetch, note_fetch}
+use Rattle.link.specs.History.{Tally, Account, account, fetch, note_fetch, fetches}
 use Rattle.link.specs.Promise.{Whole}
 use Rattle.link.proofs.Ends.{fetch_duplex, far_fetch_duplex}
 use Rattle.link.proofs.Openings.{newly_fetched}

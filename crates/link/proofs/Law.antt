@@ -1,5 +1,5 @@
 -- The law: a link that its check grants keeps its promise after every list of calls.
-use Rattle.std.proofs.Common.{◌≡◌, ℕ, ◌+◌, ◌*◌, ◌≤◌, min, Bool, true, false, ◌&&◌, eqb, leb, List, [], ◌∷◌, length, None, Err, sym, refl, ap, subst, arith}
+use Rattle.std.proofs.Common.{◌≡◌, ℕ, ◌+◌, ◌*◌, ◌≤◌, Bool, true, false, ◌&&◌, eqb, leb, List, [], ◌∷◌, length, None, Err, refl, ap, subst, arith}
 use Rattle.std.proofs.lemmas.Bool.{both_ways, leb-true, eqb-true, and_parts}
 use Rattle.lines.specs.Entries.{Entry, Lists}
 use Rattle.stations.specs.declared.mode.Mode.{Mode}
@@ -12,18 +12,15 @@ use Rattle.link.specs.declared.end.End.TheVariants.{Primary, Secondary}
 use Rattle.link.specs.declared.refusal.LinkRefusal.TheVariants.{Station as ByStation}
 use Rattle.link.specs.State.{Measures, State, state, Model, timed, no_entries, fault_by, made}
 use Rattle.link.specs.Calls.{takes_answer}
-use Rattle.link.specs.Account.{Account, account, no_tally}
-use Rattle.link.specs.History.{Call, singles, led, account_after}
-use Rattle.link.specs.Promise.{Promised, Drainable, Kept, Law}
+use Rattle.link.specs.History.{Call, run, Account, account, no_tally}
+use Rattle.link.specs.Promise.{Promised, Kept, Law}
 use Rattle.link.proofs.Ends.{flip, direction}
 use Rattle.link.proofs.Tallies.{unacknowledged}
 use Rattle.link.proofs.Phases.{Phase, both_closed, opening, both_open, closing, half_closed, Wholes, Good}
 use Rattle.link.proofs.Takes.{Unrefused}
 use Rattle.link.proofs.PrimaryTakes.{primary_takes}
 use Rattle.link.proofs.SecondaryTakes.{secondary_takes}
-use Rattle.link.proofs.Histories.{run_measures, run_sound, keep_run}
-use Rattle.link.proofs.Fits.{Fits, fits, fits_run}
-use Rattle.link.proofs.Drains.{drainable}
+use Rattle.link.proofs.Histories.{run_measures, keep_run}
 
 -- ---- what the invariant promises
 
@@ -61,20 +58,11 @@ module _ (ls : Lists) (t : ℕ) (sound : (made ls t).fault ≡ None) where
   tests = no_fault (timed ls.capacity ls.lifetime t) (no_entries ls.one ls.two) sound
 
   -- T is at least 2D + 1
-  large : 2 * ls.lifetime + 1 ≤ min t 65535
+  large : 2 * ls.lifetime + 1 ≤ t
   large =
       let enough = leb (2 * ls.lifetime + 1) t in
-      let all = and_parts (leb 8 ls.capacity && enough) (leb t 10000) tests.0 in
-      let short = leb-true t 10000 all.1 in
-      let long = leb-true (2 * ls.lifetime + 1) t (and_parts (leb 8 ls.capacity) enough all.0).1 in
-      omega arith
-
-  -- K is at least 8
-  wide : 8 ≤ ls.capacity
-  wide =
-      let enough = leb (2 * ls.lifetime + 1) t in
-      let all = and_parts (leb 8 ls.capacity && enough) (leb t 10000) tests.0 in
-      leb-true 8 ls.capacity (and_parts (leb 8 ls.capacity) enough all.0).0
+      let first = (and_parts (leb 8 ls.capacity && enough) (leb t 10000) tests.0).0 in
+      leb-true (2 * ls.lifetime + 1) t (and_parts (leb 8 ls.capacity) enough first).1
 
   one_empty : [] ≡ ls.one
   one_empty =
@@ -93,23 +81,14 @@ module _ (ls : Lists) (t : ℕ) (sound : (made ls t).fault ≡ None) where
       subst (λ one. Starts one ls.two) one_empty
       (subst (λ two. Starts [] two) two_empty (both_closed, (record { whole = refl }, record { whole = refl })))
 
-  start_fits : Fits (made ls t).measures (made ls t).now
-  start_fits =
-      let a = ap length one_empty in
-      let b = ap length two_empty in
-      fits (omega arith) (omega arith) tt
-
   kept : (calls : List Call) → Kept (made ls t) calls
   kept calls =
       let l : Model = made ls t in
-      let good = keep_run l (account no_tally no_tally) large sound start (singles l calls) in
+      let good = keep_run l (account no_tally no_tally) large sound start calls in
       record {
         promised = promised good.0 good.1;
         numbered = λ e is.
-            numbered good e (subst (λ g. Refuses g (led l calls).now e) (run_measures l (singles l calls)) is);
-        drains =
-            subst (λ m. Drainable m (account_after l calls)) (sym (run_sound l sound (singles l calls)))
-            (drainable l.measures wide large good.0 (fits_run l (omega (arith, large)) sound start_fits (singles l calls)));
+            numbered good e (subst (λ g. Refuses g (run l calls).now e) (run_measures l calls) is);
       }
 
 pub law : (ls : Lists) (t : ℕ) → Law (made ls t)

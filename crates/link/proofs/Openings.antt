@@ -5,7 +5,7 @@ use Rattle.frames.specs.Parts.{parts}
 use Rattle.lines.specs.Entries.{Entry, struck, frame}
 use Rattle.stations.specs.Station.{Block, Station, outstanding, sent, status_by, with_waiting}
 use Rattle.stations.specs.Puts.{put, put_by, plain, inform}
-use Rattle.link.specs.Account.{Tally, accept, fetch}
+use Rattle.link.specs.History.{Tally, accept, fetch}
 use Rattle.link.proofs.Thinning.{Thin, none, mute, same, hit, gone}
 use Rattle.link.proofs.Marks.{Marks, blank, unmarked, no_mark}
 use Rattle.link.proofs.Flows.{Carries, Flow, done, skip, info, status, flow_thin, flow_accept, flow_info}

@@ -5,8 +5,7 @@ use Rattle.stations.specs.declared.mode.Mode.TheVariants.{Closed, Opening, Open,
 use Rattle.stations.specs.Station.{Station}
 use Rattle.stations.specs.Primary.{Timer}
 use Rattle.link.specs.State.{Measures, State, state}
-use Rattle.link.specs.Singles.{Single, leaves}
-use Rattle.link.specs.Account.{notes, Tally, Account, account}
+use Rattle.link.specs.History.{Call, leaves, notes, Tally, Account, account}
 use Rattle.link.specs.Promise.{Whole}
 use Rattle.link.proofs.Exchange.{Exchange}
 use Rattle.link.proofs.Ends.{Duplex}
@@ -36,5 +35,5 @@ abbrev pub Good : Measures → State → Account → Type 0
 Good g x y = Phase g x y × Wholes x y
 
 -- the invariant after a call
-abbrev pub Then : Single → Measures → State → Account → Type 0
+abbrev pub Then : Call → Measures → State → Account → Type 0
 Then c g x y = Good g (leaves c g x) (notes c g x y)

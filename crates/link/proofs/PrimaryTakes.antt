@@ -8,7 +8,7 @@ use Rattle.stations.specs.Rule.{hear_i, hear_s}
 use Rattle.stations.specs.Primary.{Timer, timer_by, resend_by}
 use Rattle.link.specs.declared.end.End.TheVariants.{Primary}
 use Rattle.link.specs.State.{Measures, State, state}
-use Rattle.link.specs.Account.{Tally, Account, account, restart, acknowledge}
+use Rattle.link.specs.History.{Tally, Account, account, restart, acknowledge}
 use Rattle.link.specs.Promise.{Whole}
 use Rattle.link.proofs.Marks.{Marks, marked_status, marks_tail}
 use Rattle.link.proofs.Exchange.{Exchange, exchange_none, exchange_two, exchange_done, exchange_resend}

@@ -3,8 +3,7 @@ use Rattle.std.proofs.Common.{eqb, ltb, [], length, Some, None, refl}
 use Rattle.frames.specs.declared.kind.Kind.TheVariants.{Sarm, Disc}
 use Rattle.stations.specs.Puts.{plain, status}
 use Rattle.link.specs.State.{Measures, State}
-use Rattle.link.specs.Singles.{opens, closes, polls}
-use Rattle.link.specs.Account.{Account}
+use Rattle.link.specs.History.{Account, opens, closes, polls}
 use Rattle.link.proofs.Marks.{marked_status, empty}
 use Rattle.link.proofs.Exchange.{quiet, exchange_ask}
 use Rattle.link.proofs.Ends.{flip, status_duplex, disc_duplex}

@@ -12,7 +12,7 @@ use Rattle.stations.specs.Primary.{Timer}
 use Rattle.stations.specs.Secondary.{final_by}
 use Rattle.link.specs.declared.end.End.TheVariants.{Secondary}
 use Rattle.link.specs.State.{Measures, State, state}
-use Rattle.link.specs.Account.{Tally, Account, account}
+use Rattle.link.specs.History.{Tally, Account, account}
 use Rattle.link.specs.Promise.{Whole}
 use Rattle.link.proofs.Marks.{marked_status, marks_tail}
 use Rattle.link.proofs.Exchange.{Exchange, exchange_one, exchange_answer, exchange_free, exchange_final}

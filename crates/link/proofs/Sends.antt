@@ -11,9 +11,8 @@ use Rattle.stations.specs.Primary.{Timer}
 use Rattle.stations.specs.Secondary as secondary
 use Rattle.link.specs.declared.end.End.TheVariants.{Primary, Secondary}
 use Rattle.link.specs.State.{Measures, State, state}
-use Rattle.link.specs.Calls.{by_primary, by_secondary, moved_counts, replied}
-use Rattle.link.specs.Singles.{sends}
-use Rattle.link.specs.Account.{Tally, Account, account, note_send}
+use Rattle.link.specs.Calls.{by_primary, by_secondary, counted, replied}
+use Rattle.link.specs.History.{Tally, Account, account, note_send, sends}
 use Rattle.link.specs.Promise.{Whole}
 use Rattle.link.proofs.Marks.{marks_put}
 use Rattle.link.proofs.Exchange.{Exchange, exchange_one, exchange_two}
@@ -37,7 +36,7 @@ module _ (g : Measures) (z : Block) where
   abbrev PrimarySent : Option StationRefusal → List Entry → List Entry → Timer → Station → Station → Account → Type 0
   PrimarySent r one two t p s y =
       let move = primary.send_by r g.k Open t p z one in
-      Good g (by_primary move (state one two Open t true p s)) (note_send (moved_counts move one) Primary z y)
+      Good g (by_primary move (state one two Open t true p s)) (note_send (counted move one) Primary z y)
 
   abbrev SecondarySent : Option StationRefusal → State → List Entry → Station → Account → Type 0
   SecondarySent r x two s y =

@@ -5,8 +5,7 @@ use Rattle.frames.specs.declared.way.Way.TheVariants.{One, Two}
 use Rattle.lines.specs.Entries.{Entry}
 use Rattle.link.specs.State.{Measures, State}
 use Rattle.link.specs.Calls.{struck_way}
-use Rattle.link.specs.Singles.{strikes}
-use Rattle.link.specs.Account.{Account}
+use Rattle.link.specs.History.{Account, strikes}
 use Rattle.link.proofs.Thinning.{Thin, thin_strike}
 use Rattle.link.proofs.Marks.{Unmarking, marks_strike}
 use Rattle.link.proofs.Exchange.{exchange_one, exchange_two}

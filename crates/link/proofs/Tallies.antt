@@ -4,7 +4,7 @@ use Rattle.std.proofs.lemmas.List.{length_push, drop-append-le, drop-drop, get_o
 use Rattle.std.proofs.lemmas.Bool.{le-leb}
 use Rattle.stations.specs.Station as end
 use Rattle.stations.specs.Station.{Block, Station, reset, outstanding, passed, allowed, sent, far_is, with_waiting}
-use Rattle.link.specs.Account.{Tally, accept, acknowledge, take_in, fetch, restart}
+use Rattle.link.specs.History.{Tally, accept, acknowledge, take_in, fetch, restart}
 use Rattle.link.specs.Promise.{Outstanding}
 use Rattle.link.proofs.Modulo.{apart, next}
 use Rattle.link.proofs.Flows.{Tells, Carries}

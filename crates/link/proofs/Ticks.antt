@@ -11,8 +11,7 @@ use Rattle.stations.specs.Puts.{plain, status}
 use Rattle.stations.specs.Primary.{tick_by}
 use Rattle.link.specs.State.{Measures, State, state}
 use Rattle.link.specs.Calls.{by_primary}
-use Rattle.link.specs.Singles.{ticks}
-use Rattle.link.specs.Account.{Tally, Account, account}
+use Rattle.link.specs.History.{Tally, Account, account, ticks}
 use Rattle.link.specs.Promise.{Whole}
 use Rattle.link.proofs.Thinning.{Thin, thin_older}
 use Rattle.link.proofs.Marks.{marked_status}

@@ -16,8 +16,4 @@ worked_histories =
       eighth_number = refl;
       nine = refl;
       ninth = refl;
-      none_in = refl;
-      drained = refl;
-      far_busy = refl;
-      far_busy_number = refl;
     }

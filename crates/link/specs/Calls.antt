@@ -35,9 +35,9 @@ by_secondary (Err e) x = x
 by_secondary (Ok r) (state one two m t u p s) = state one r.out m t r.opened p r.station
 
 -- a granted call answers how many frames it put and lost
-abbrev pub moved_counts : Result Move StationRefusal → List Entry → Result Counts LinkRefusal
-moved_counts (Err e) before = Err (Station e)
-moved_counts (Ok r) before = Ok (counts r.tried before r.out)
+abbrev pub counted : Result Move StationRefusal → List Entry → Result Counts LinkRefusal
+counted (Err e) before = Err (Station e)
+counted (Ok r) before = Ok (counts r.tried before r.out)
 
 abbrev pub replied : Result Reply StationRefusal → List Entry → Result Counts LinkRefusal
 replied (Err e) before = Err (Station e)
@@ -49,25 +49,25 @@ none_put = record { put = 0; lost = 0 }
 -- ---- open, close, poll, send
 
 abbrev pub opens_answer : Measures → State → Result Counts LinkRefusal
-opens_answer g (state one two m t u p s) = moved_counts (primary_opens g.k m t p one) one
+opens_answer g (state one two m t u p s) = counted (primary_opens g.k m t p one) one
 
 abbrev pub opens_leaves : Measures → State → State
 opens_leaves g (state one two m t u p s) = by_primary (primary_opens g.k m t p one) (state one two m t u p s)
 
 abbrev pub closes_answer : Measures → State → Result Counts LinkRefusal
-closes_answer g (state one two m t u p s) = moved_counts (primary_closes g.k m t p one) one
+closes_answer g (state one two m t u p s) = counted (primary_closes g.k m t p one) one
 
 abbrev pub closes_leaves : Measures → State → State
 closes_leaves g (state one two m t u p s) = by_primary (primary_closes g.k m t p one) (state one two m t u p s)
 
 abbrev pub polls_answer : Measures → State → Result Counts LinkRefusal
-polls_answer g (state one two m t u p s) = moved_counts (primary_polls g.k m t p one) one
+polls_answer g (state one two m t u p s) = counted (primary_polls g.k m t p one) one
 
 abbrev pub polls_leaves : Measures → State → State
 polls_leaves g (state one two m t u p s) = by_primary (primary_polls g.k m t p one) (state one two m t u p s)
 
 abbrev pub sends_answer : Measures → End → Block → State → Result Counts LinkRefusal
-sends_answer g Primary z (state one two m t u p s) = moved_counts (primary_sends g.k m t p z one) one
+sends_answer g Primary z (state one two m t u p s) = counted (primary_sends g.k m t p z one) one
 sends_answer g Secondary z (state one two m t u p s) = replied (secondary_sends g.k u s z two) two
 
 abbrev pub sends_leaves : Measures → End → Block → State → State
@@ -111,7 +111,7 @@ takes_leaves g Secondary (state (frame a f ∷ es) two m t u p s) = by_secondary
 
 abbrev pub ticks_answer : Measures → State → Result Counts LinkRefusal
 ticks_answer g (state one two m t u p s) =
-    let aged = older g.d one in moved_counts (Ok (primary_ticks g.k g.t m t p aged)) aged
+    let aged = older g.d one in counted (Ok (primary_ticks g.k g.t m t p aged)) aged
 
 abbrev pub ticks_leaves : Measures → State → State
 ticks_leaves g (state one two m t u p s) =

@@ -1,10 +1,10 @@
 -- Histories worked out from the definitions: a line of K = 8 and D = 2, and a link over it with T = 5.
-use Rattle.std.specs.Prelude.{◌≡◌, ℕ, true, List, [], ◌∷◌, ◌++◌, map, replicate, Ok, Err}
+use Rattle.std.specs.Prelude.{◌≡◌, ℕ, List, [], ◌∷◌, ◌++◌, replicate, Ok, Err}
 use Rattle.frames.specs.declared.way.Way.TheVariants.{One}
 use Rattle.frames.specs.declared.kind.Kind.TheVariants.{I, Sarm}
 use Rattle.frames.specs.Parts.{parts}
 use Rattle.lines.specs.Entries.{Entry, struck, frame, Lists}
-use Rattle.stations.specs.declared.refusal.StationRefusal.TheVariants.{Window, FarBusy}
+use Rattle.stations.specs.declared.refusal.StationRefusal.TheVariants.{Window}
 use Rattle.stations.specs.Station.{Block}
 use Rattle.stations.specs.Puts.{plain}
 use Rattle.link.specs.declared.end.End.TheVariants.{Primary, Secondary}
@@ -12,10 +12,7 @@ use Rattle.link.specs.declared.refusal.LinkRefusal.TheVariants.{Timer, Station}
 use Rattle.link.specs.Refusals.{number_of}
 use Rattle.link.specs.State.{State, state, Model, check_answer, made}
 use Rattle.link.specs.Calls.{sends_answer, asked}
-use Rattle.link.specs.Singles.{Single, opens, polls, ticks, sends, takes, fetches, strikes, run}
-use Rattle.link.specs.Drain.{drain_answer}
-use Rattle.link.specs.History.{single, drains, led}
-use Rattle.link.specs.Account.{Account, account, no_tally, account_of}
+use Rattle.link.specs.History.{Call, opens, polls, ticks, sends, takes, fetches, strikes, run, Account, account, no_tally, account_of}
 
 abbrev pub empty_line : Lists
 empty_line = record { one = []; two = []; capacity = 8; lifetime = 2 }
@@ -30,39 +27,31 @@ block = 42 ∷ []
 abbrev pub way_one : State → List Entry
 way_one (state one two m t u p s) = one
 
-abbrev pub way_one_after : List Single → List Entry
+abbrev pub way_one_after : List Call → List Entry
 way_one_after calls = way_one (run new_link calls).now
 
 -- the blocks that the primary has then accepted since it opened
 abbrev pub primary_accepted : Account → List Block
 primary_accepted (account p s) = p.accepted
 
-abbrev pub accepted_after : List Single → List Block
+abbrev pub accepted_after : List Call → List Block
 accepted_after calls =
     primary_accepted (account_of new_link (account no_tally no_tally) calls)
 
 -- the link opens, and its SARM is struck
-abbrev pub struck_opening : List Single
+abbrev pub struck_opening : List Call
 struck_opening = opens ∷ strikes One 0 0 1 ∷ []
 
 -- it opens, and the primary sends so many blocks
-abbrev pub opened_and_sent : ℕ → List Single
+abbrev pub opened_and_sent : ℕ → List Call
 opened_and_sent n = opens ∷ takes Secondary ∷ takes Primary ∷ replicate n (sends Primary block)
 
 -- seven blocks are taken in, one is fetched, a poll brings the acknowledgement, and two more are sent
-abbrev pub nine_sent : List Single
+abbrev pub nine_sent : List Call
 nine_sent =
     opened_and_sent 7
     ++ (polls ∷ replicate 7 (takes Secondary))
     ++ (fetches Secondary ∷ takes Secondary ∷ takes Primary ∷ replicate 2 (sends Primary block))
-
--- of seven blocks just sent the first is struck, and the secondary takes seven times
-abbrev pub first_struck : List Single
-first_struck = opened_and_sent 7 ++ (strikes One 0 0 1 ∷ replicate 7 (takes Secondary))
-
--- the blocks that the secondary has taken in since it opened
-abbrev pub secondary_taken : Account → List Block
-secondary_taken (account p s) = s.taken
 
 pub record WorkedHistories : Type 0 where
   -- with D = 2, T = 4 is too short, which is refused with 16, and T = 5 is enough
@@ -80,12 +69,3 @@ pub record WorkedHistories : Type 0 where
   -- a connection's eighth block has N(S) 7, and its ninth N(S) 0
   pub nine : accepted_after nine_sent ≡ replicate 9 block
   pub ninth : way_one_after nine_sent ≡ frame 0 (parts I 7 0 0 block) ∷ frame 0 (parts I 0 0 0 block) ∷ []
-  -- seven takes take in nothing, since the first block is missing; a drain then has all seven across, and with seven
-  -- waiting the next send is refused with 21
-  pub none_in : secondary_taken (account_of new_link (account no_tally no_tally) first_struck) ≡ []
-  pub drained :
-      drain_answer (run new_link first_struck)
-      ≡ Ok (record { counts = record { put = 11; lost = 0 }; ticks = 0; takes = 11; settled = true })
-  pub far_busy :
-      asked (led new_link (map single first_struck ++ drains ∷ [])) (λ g x. sends_answer g Primary block x) ≡ Err (Station FarBusy)
-  pub far_busy_number : number_of (Station FarBusy) ≡ 21

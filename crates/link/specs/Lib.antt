@@ -3,10 +3,6 @@ pub mod State
 pub mod Views
 pub mod Questions
 pub mod Calls
-pub mod Singles
-pub mod Account
-pub mod Drain
-pub mod Sizes
 pub mod History
 pub mod Plays
 pub mod Promise

@@ -1,5 +1,5 @@
 -- What a link holds, and when it is sound.
-use Rattle.std.specs.Prelude.{ℕ, ◌+◌, ◌*◌, min, Bool, true, false, not, ◌&&◌, List, [], length, Some, None, Ok, Err, Option, Result, ◌==◌, nat_le}
+use Rattle.std.specs.Prelude.{ℕ, ◌+◌, ◌*◌, Bool, true, false, not, ◌&&◌, List, [], length, Some, None, Ok, Err, Option, Result, ◌==◌, nat_le}
 use Rattle.lines.specs.Entries.{Entry, Lists}
 use Rattle.stations.specs.declared.mode.Mode.{Mode}
 use Rattle.stations.specs.declared.mode.Mode.TheVariants.{Closed}
@@ -47,11 +47,11 @@ check_by None = Ok tt
 abbrev pub check_answer : Lists → ℕ → Result (Unit {0}) LinkRefusal
 check_answer l t = check_by (fault_of l t)
 
--- a new link: both ends closed, reset, with nothing waiting and no timer; T is kept in 16 bits, and a longer one is refused
+-- a new link: both ends closed, reset, with nothing waiting and no timer
 abbrev pub made : Lists → ℕ → Model
 made l t =
     record {
       fault = fault_of l t;
-      measures = record { k = l.capacity; d = l.lifetime; t = min t 65535 };
+      measures = record { k = l.capacity; d = l.lifetime; t = t };
       now = state l.one l.two Closed None false fresh fresh;
     }

@@ -12,5 +12,4 @@ pub enum Call {
     Take(End),
     Fetch(End),
     Strike(Way, usize, usize, u16),
-    Drain,
 }

@@ -4,14 +4,13 @@ use lines::Line;
 use stations::{Primary, Secondary};
 
 mod calls;
-mod drain;
 mod play;
 mod questions;
 
 #[derive(Drop)]
 pub struct Link<L: Line> {
     line: L,
-    limit: u16,
+    limit: usize,
     fault: Option<LinkRefusal>,
     primary: Primary,
     secondary: Secondary,

@@ -1,12 +1,8 @@
-// Tests of the link over a table line and an octet line, and of the stations under it.
+// Tests of the link over a table line with K = 8, D = 2 and T = 5, and of the stations under it.
 #[cfg(test)]
-mod acts;
-#[cfg(test)]
-mod drains;
+mod answers;
 #[cfg(test)]
 mod exchanges;
-#[cfg(test)]
-mod history;
 #[cfg(test)]
 mod links;
 #[cfg(test)]

@@ -1,58 +1,96 @@
 // What a fetch writes, and where a list of calls leads.
-use crate::acts::*;
-use crate::history::*;
+use crate::answers::*;
 use frames::Way;
-use link::End;
-use stations::{Mode, SecondaryMode};
+use lines::{Blank, Line, Record, TableLine};
+use link::{Call, End, Link};
+use std::process::Abort;
+use std::test::Fail;
 
-// Blocks come out in the order they were sent, whole and with nothing behind them.
-const FETCHES: [Row; 12] = [
-    Row::One(Act::Open, PUT),
-    Row::One(AT_SECONDARY, ANSWERED),
-    Row::One(AT_PRIMARY, HEEDED),
-    Row::One(Act::Send(End::Secondary, 3), PUT),
-    Row::One(Act::Send(End::Secondary, 0), PUT),
-    Row::One(Act::Send(End::Secondary, 64), PUT),
-    Row::Times(3, AT_PRIMARY, TAKEN_IN),
-    Row::One(Act::Fetch(End::Primary), Answer::Fetched(3)),
-    Row::One(Act::Fetch(End::Primary), Answer::Fetched(0)),
-    Row::One(Act::Fetch(End::Primary), Answer::Fetched(64)),
-    Row::One(Act::Fetch(End::Primary), Answer::Refused(23)),
-    Row::One(Act::Fetch(End::Secondary), Answer::Refused(23)),
-];
-
-#[test]
-fn fetches_in_order(rt: HostRuntime) -> Result<(), Fail> {
-    over_both(&rt, &FETCHES)
+// Blocks come out in the order they were sent; the octets behind a block keep their content, and so does the place at a
+// refusal.
+fn fetches<L: Line>(rt: &impl Abort, link: &mut Link<L>) -> Result<(), Fail> {
+    opened(rt, link);
+    let mut place = [0xaa; 64];
+    let _ = link.send(End::Secondary, &[1, 2, 3])?;
+    let _ = link.send(End::Secondary, &[])?;
+    let _ = link.send(End::Secondary, &[4; 64])?;
+    repeat(rt, link, 3, Call::Take(End::Primary), block_heard(0, true));
+    let mut expected = [0xaa; 64];
+    expected[0] = 1;
+    expected[1] = 2;
+    expected[2] = 3;
+    assert_eq!(rt; link.fetch(End::Primary, &mut place)?.length, 3);
+    assert!(rt; place == expected);
+    assert_eq!(rt; link.fetch(End::Primary, &mut place)?.length, 0);
+    assert!(rt; place == expected);
+    assert_eq!(rt; link.fetch(End::Primary, &mut place)?.length, 64);
+    assert!(rt; place == [4; 64]);
+    assert!(rt; link.fetch(End::Primary, &mut place).is_err());
+    assert!(rt; place == [4; 64]);
+    Ok(())
 }
 
-// Lists of calls, refused ones too, lead where their calls lead.
-const PLAYED: [Row; 22] = [
-    Row::Play(Act::Poll, Act::Open, Act::Tick),
-    Row::Modes(Mode::Opening, SecondaryMode::Closed),
-    Row::Entries(1, 0),
-    Row::Play(AT_SECONDARY, AT_PRIMARY, SEND),
-    Row::Modes(Mode::Open, SecondaryMode::Open),
-    Row::Outstanding(1, 0),
-    Row::Entries(1, 0),
-    Row::Play(REPLY, Act::Poll, Act::Strike(Way::One, 0, 0, 1)),
-    Row::Outstanding(1, 1),
-    Row::Entries(2, 1),
-    Row::Play(AT_SECONDARY, AT_SECONDARY, AT_PRIMARY),
-    Row::Waiting(1, 0),
-    Row::Entries(0, 2),
-    Row::Play(Act::Fetch(End::Primary), AT_PRIMARY, SEND),
-    Row::Waiting(0, 0),
-    Row::Outstanding(2, 1),
-    Row::Entries(2, 1),
-    Row::Play(AT_SECONDARY, Act::Close, AT_SECONDARY),
-    Row::Modes(Mode::Closing, SecondaryMode::Open),
-    Row::Outstanding(2, 0),
-    Row::Waiting(0, 2),
-    Row::Entries(1, 1),
-];
+#[test]
+fn fetch_leaves_the_octets_behind(rt: HostRuntime) -> Result<(), Fail> {
+    let mut one = [Record::blank(); 8];
+    let mut two = [Record::blank(); 8];
+    let mut link = Link::make(TableLine::make(8, 2, &mut one, &mut two), 5);
+    fetches(&rt, &mut link)
+}
+
+// What the questions answer is the same at both links.
+fn alike<L: Line>(rt: &impl Abort, link: &Link<L>, other: &Link<L>) {
+    assert_eq!(rt; link.primary_mode(), other.primary_mode());
+    assert_eq!(rt; link.secondary_mode(), other.secondary_mode());
+    for end in [End::Primary, End::Secondary] {
+        assert_eq!(rt; link.outstanding(end), other.outstanding(end));
+        assert_eq!(rt; link.waiting(end), other.waiting(end));
+    }
+    for way in [Way::One, Way::Two] {
+        assert_eq!(rt; link.entries(way), other.entries(way));
+    }
+}
+
+// One link plays the list, the other makes its calls one by one.
+fn led<L: Line>(rt: &impl Abort, link: &mut Link<L>, other: &mut Link<L>, calls: &[Call]) {
+    link.play(calls);
+    for call in calls {
+        let _ = ask(other, *call);
+    }
+    alike(rt, link, other);
+}
 
 #[test]
-fn play_leads_where_calls_lead(rt: HostRuntime) -> Result<(), Fail> {
-    over_both(&rt, &PLAYED)
+fn play_leads_where_calls_lead(rt: HostRuntime) {
+    let lists: [&[Call]; 6] = [
+        &[Call::Poll, Call::Open, Call::Tick],
+        &[Call::Take(End::Secondary), Call::Take(End::Primary)],
+        &[send(End::Primary, 1), send(End::Secondary, 2), Call::Poll],
+        &[
+            Call::Strike(Way::One, 0, 0, 1),
+            Call::Take(End::Secondary),
+            Call::Take(End::Secondary),
+            Call::Take(End::Primary),
+        ],
+        &[
+            Call::Fetch(End::Primary),
+            Call::Take(End::Primary),
+            Call::Take(End::Primary),
+        ],
+        &[
+            Call::Close,
+            Call::Take(End::Secondary),
+            Call::Take(End::Secondary),
+        ],
+    ];
+    let mut one = [Record::blank(); 8];
+    let mut two = [Record::blank(); 8];
+    let mut link = Link::make(TableLine::make(8, 2, &mut one, &mut two), 5);
+    let mut first = [Record::blank(); 8];
+    let mut second = [Record::blank(); 8];
+    let mut other = Link::make(TableLine::make(8, 2, &mut first, &mut second), 5);
+    for calls in lists {
+        led(&rt, &mut link, &mut other, calls);
+    }
+    assert_eq!(rt; link.waiting(End::Secondary), 1);
 }

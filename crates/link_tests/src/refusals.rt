@@ -1,158 +1,142 @@
 // Every refusal of the link and of the stations, in the order that the calls look for them.
-use crate::acts::*;
-use crate::history::*;
+use crate::answers::*;
 use frames::{Block, FrameBuf, Kind, Way};
 use lines::{Blank, Line, Record, TableLine};
-use link::{End, Link};
+use link::{Call, End, Link, LinkRefusal};
 use stations::{Mode, Primary, SecondaryMode, StationRefusal};
 use std::process::Abort;
+use std::test::Fail;
 
-// What check answers of a line, 0 for yes.
-fn checked<L: Line>(line: &L, limit: usize) -> u8 {
-    match Link::check(line, limit) {
-        Ok(_) => 0,
-        Err(refusal) => refusal.number(),
-    }
+// Each kind of call once.
+fn each() -> [Call; 8] {
+    [
+        Call::Open,
+        Call::Close,
+        Call::Poll,
+        Call::Tick,
+        send(End::Primary, 1),
+        Call::Take(End::Secondary),
+        Call::Fetch(End::Primary),
+        Call::Strike(Way::One, 0, 0, 1),
+    ]
 }
-
-const EACH_ACT: [Act; 8] = [
-    Act::Open,
-    Act::Close,
-    Act::Poll,
-    Act::Tick,
-    SEND,
-    AT_SECONDARY,
-    Act::Fetch(End::Primary),
-    Act::Strike(Way::Two, 0, 0, 1),
-];
-
-const UNTOUCHED: [Row; 3] = [
-    Row::Modes(Mode::Closed, SecondaryMode::Closed),
-    Row::Outstanding(0, 0),
-    Row::Waiting(0, 0),
-];
 
 // Every call answers this number and alters nothing; the questions are answered.
-fn unsound<L: Line>(
-    rt: &impl Abort,
-    link: &mut Link<L>,
-    number: u8,
-    frames: usize,
-) -> Result<(), Fail> {
-    for act in EACH_ACT {
-        assert_eq!(rt; ask(link, act), Answer::Refused(number));
+fn unsound<L: Line>(rt: &impl Abort, link: &mut Link<L>, number: u8, entries: usize) {
+    for call in each() {
+        assert_eq!(rt; ask(link, call), Answer::Refused(number));
     }
-    follow(rt, link, &UNTOUCHED)?;
-    assert_eq!(rt; entries(link), [0, frames]);
-    Ok(())
+    assert_eq!(rt; link.primary_mode(), Mode::Closed);
+    assert_eq!(rt; link.secondary_mode(), SecondaryMode::Closed);
+    assert_eq!(rt; link.outstanding(End::Primary), 0);
+    assert_eq!(rt; link.waiting(End::Secondary), 0);
+    assert_eq!(rt; link.entries(Way::One), 0);
+    assert_eq!(rt; link.entries(Way::Two), entries);
 }
 
-// A line is checked empty and with a UA on way 2, and a link is made over it.
-fn measured<L: Line + Drop>(
-    rt: &impl Abort,
-    mut line: L,
-    limit: usize,
-    empty: u8,
-    used: u8,
-    frames: usize,
-) -> Result<(), Fail> {
-    assert_eq!(rt; checked(&line, limit), empty);
-    let _ = line.put(Way::Two, Kind::Ua, 0, 0, 0, &[]);
-    assert_eq!(rt; checked(&line, limit), used);
-    unsound(rt, &mut Link::make(line, limit), used, frames)
-}
-
-// K, T, what check answers of the empty line and of the line with a frame, and how many frames that has. K 7 makes a dead
-// line, which holds nothing.
-const MEASURES: [(usize, usize, u8, u8, usize); 6] = [
-    (7, 5, 16, 16, 0),
-    (8, 0, 16, 16, 1),
-    (8, 4, 16, 16, 1),
-    (8, 10001, 16, 16, 1),
-    (8, 5, 0, 17, 1),
-    (8, 10000, 0, 17, 1),
-];
-
+// K 7 makes a dead line, which holds nothing; the others hold a frame, and timer comes before in use.
 #[test]
-fn timer_then_in_use_before_all_else(rt: HostRuntime) -> Result<(), Fail> {
-    for (k, limit, empty, used, frames) in MEASURES {
+fn timer_before_all_else(rt: HostRuntime) {
+    for (k, limit, entries) in [(7, 5, 0), (8, 4, 1), (8, 10001, 1), (8, 0, 1)] {
         let mut one = [Record::blank(); 8];
         let mut two = [Record::blank(); 8];
-        let line = TableLine::make(k, 2, &mut one, &mut two);
-        measured(&rt, line, limit, empty, used, frames)?;
+        let mut line = TableLine::make(k, 2, &mut one, &mut two);
+        let _ = line.put(Way::Two, Kind::Ua, 0, 0, 0, &[]);
+        assert_eq!(rt; Link::check(&line, limit), Err(LinkRefusal::Timer));
+        unsound(&rt, &mut Link::make(line, limit), 16, entries);
     }
-    Ok(())
 }
 
-// What a closed link refuses, and an opening one: mode comes before a long block, no entry before struck, no mask and off
-// frame.
-const CLOSED: [Row; 15] = [
-    Row::One(Act::Send(End::Secondary, 65), Answer::Refused(18)),
-    Row::One(Act::Send(End::Primary, 65), Answer::Refused(18)),
-    Row::One(Act::Close, Answer::Refused(18)),
-    Row::One(Act::Poll, Answer::Refused(18)),
-    Row::One(SEND, Answer::Refused(18)),
-    Row::One(AT_PRIMARY, Answer::Refused(9)),
-    Row::One(Act::Fetch(End::Primary), Answer::Refused(23)),
-    Row::One(Act::Strike(Way::One, 0, 17, 0), Answer::Refused(11)),
-    Row::One(Act::Open, PUT),
-    Row::One(Act::Open, Answer::Refused(18)),
-    Row::One(Act::Strike(Way::One, 0, 17, 0), Answer::Refused(13)),
-    Row::One(Act::Strike(Way::One, 0, 17, 1), Answer::Refused(14)),
-    Row::One(Act::Strike(Way::One, 0, 16, 1), QUIET),
-    Row::One(Act::Strike(Way::One, 0, 17, 0), Answer::Refused(12)),
-    Row::One(AT_SECONDARY, Answer::Refused(10)),
-];
+#[test]
+fn in_use_before_all_else(rt: HostRuntime) {
+    for limit in [5, 10000] {
+        let mut one = [Record::blank(); 8];
+        let mut two = [Record::blank(); 8];
+        let mut line = TableLine::make(8, 2, &mut one, &mut two);
+        assert_eq!(rt; Link::check(&line, limit), Ok(()));
+        assert!(rt; line.put(Way::Two, Kind::Ua, 0, 0, 0, &[]).is_ok());
+        assert_eq!(rt; Link::check(&line, limit), Err(LinkRefusal::InUse));
+        unsound(&rt, &mut Link::make(line, limit), 17, 1);
+    }
+}
+
+// What a closed link refuses: mode comes before a long block.
+fn closed<L: Line>(rt: &impl Abort, link: &mut Link<L>) {
+    let long = link.send(End::Secondary, &[0; 65]);
+    assert_eq!(rt; counted(long), Answer::Refused(18));
+    follow(
+        rt,
+        link,
+        &[
+            (Call::Close, Answer::Refused(18)),
+            (Call::Poll, Answer::Refused(18)),
+            (send(End::Primary, 1), Answer::Refused(18)),
+            (Call::Take(End::Primary), Answer::Refused(9)),
+            (Call::Fetch(End::Primary), Answer::Refused(23)),
+            (Call::Strike(Way::One, 0, 17, 0), Answer::Refused(11)),
+            (Call::Open, puts(1)),
+            (Call::Open, Answer::Refused(18)),
+            (Call::Strike(Way::One, 0, 17, 0), Answer::Refused(13)),
+            (Call::Strike(Way::One, 0, 17, 1), Answer::Refused(14)),
+            (Call::Strike(Way::One, 0, 16, 1), puts(0)),
+            (Call::Strike(Way::One, 0, 17, 0), Answer::Refused(12)),
+            (Call::Take(End::Secondary), Answer::Refused(10)),
+        ],
+    );
+}
 
 #[test]
-fn refusals_of_a_closed_link(rt: HostRuntime) -> Result<(), Fail> {
-    over_both(&rt, &CLOSED)
+fn refusals_of_a_closed_link(rt: HostRuntime) {
+    let mut one = [Record::blank(); 8];
+    let mut two = [Record::blank(); 8];
+    let mut link = Link::make(TableLine::make(8, 2, &mut one, &mut two), 5);
+    closed(&rt, &mut link);
 }
 
 // What an open link refuses. The secondary's queue and the primary's window are full, so that window comes before far
 // busy, and a long block before both.
-const OPEN: [Row; 17] = [
-    Row::One(Act::Open, PUT),
-    Row::One(AT_SECONDARY, ANSWERED),
-    Row::One(AT_PRIMARY, HEEDED),
-    Row::Times(7, SEND, PUT),
-    Row::Times(7, AT_SECONDARY, TAKEN_IN),
-    Row::One(Act::Poll, PUT),
-    Row::One(Act::Poll, Answer::Refused(22)),
-    Row::One(Act::Close, Answer::Refused(22)),
-    Row::One(Act::Open, Answer::Refused(18)),
-    Row::One(AT_SECONDARY, ANSWERED),
-    Row::One(SEND, Answer::Refused(20)),
-    Row::One(AT_PRIMARY, Answer::Took(0, 0, 7, Made::Heeded)),
-    Row::One(SEND, Answer::Refused(21)),
-    Row::One(Act::Send(End::Primary, 65), Answer::Refused(19)),
-    Row::Times(7, REPLY, PUT),
-    Row::One(Act::Send(End::Secondary, 65), Answer::Refused(19)),
-    Row::One(REPLY, Answer::Refused(20)),
-];
+fn open<L: Line>(rt: &impl Abort, link: &mut Link<L>) {
+    opened(rt, link);
+    repeat(rt, link, 7, send(End::Primary, 1), puts(1));
+    repeat(
+        rt,
+        link,
+        7,
+        Call::Take(End::Secondary),
+        block_heard(0, true),
+    );
+    follow(
+        rt,
+        link,
+        &[
+            (Call::Poll, puts(1)),
+            (Call::Poll, Answer::Refused(22)),
+            (Call::Close, Answer::Refused(22)),
+            (Call::Open, Answer::Refused(18)),
+            (Call::Take(End::Secondary), heeds(1, 0)),
+            (send(End::Primary, 1), Answer::Refused(20)),
+            (Call::Take(End::Primary), heeds(0, 7)),
+            (send(End::Primary, 1), Answer::Refused(21)),
+        ],
+    );
+    let long = link.send(End::Primary, &[0; 65]);
+    assert_eq!(rt; counted(long), Answer::Refused(19));
+    repeat(rt, link, 7, send(End::Secondary, 1), puts(1));
+    let long = link.send(End::Secondary, &[0; 65]);
+    assert_eq!(rt; counted(long), Answer::Refused(19));
+    assert_eq!(rt; ask(link, send(End::Secondary, 1)), Answer::Refused(20));
+}
 
 #[test]
-fn refusals_of_an_open_link(rt: HostRuntime) -> Result<(), Fail> {
-    over_both(&rt, &OPEN)
+fn refusals_of_an_open_link(rt: HostRuntime) {
+    let mut one = [Record::blank(); 8];
+    let mut two = [Record::blank(); 8];
+    let mut link = Link::make(TableLine::make(8, 2, &mut one, &mut two), 5);
+    open(&rt, &mut link);
 }
 
-// What a primary is told: a call, or a frame of the secondary with this N(R).
-#[derive(Clone, Copy)]
-enum Told {
-    Open,
-    Send,
-    Hear(Kind, u8),
-}
-
-// The number of a refusal, 0 where there is none.
-fn number<T: Drop>(answer: Result<T, StationRefusal>) -> u8 {
-    match answer {
-        Ok(_) => 0,
-        Err(refusal) => refusal.number(),
-    }
-}
-
-fn frame(kind: Kind, nr: u8) -> FrameBuf {
+// RR or RNR from the secondary with this N(R).
+fn status(kind: Kind, nr: u8) -> FrameBuf {
     FrameBuf {
         kind,
         ns: 0,
@@ -162,38 +146,27 @@ fn frame(kind: Kind, nr: u8) -> FrameBuf {
     }
 }
 
-fn tell<L: Line>(primary: &mut Primary, told: Told, line: &mut L) -> u8 {
-    match told {
-        Told::Open => number(primary.open(line)),
-        Told::Send => number(primary.send(&[1], line)),
-        Told::Hear(kind, nr) => number(primary.hear(frame(kind, nr), line)),
-    }
-}
-
-// An N(R) beyond V(S) is refused with numbering, and far status and window stay: a send is still granted. Beside each, the
-// number of its refusal, and how many blocks are then outstanding.
-const NUMBERS: [(Told, u8, usize); 8] = [
-    (Told::Open, 0, 0),
-    (Told::Hear(Kind::Ua, 0), 0, 0),
-    (Told::Send, 0, 1),
-    (Told::Send, 0, 2),
-    (Told::Hear(Kind::Rnr, 3), 24, 2),
-    (Told::Send, 0, 3),
-    (Told::Hear(Kind::Rnr, 3), 0, 0),
-    (Told::Send, 21, 0),
-];
-
-fn beyond<L: Line>(rt: &impl Abort, primary: &mut Primary, line: &mut L) {
-    for (told, number, outstanding) in NUMBERS {
-        assert_eq!(rt; tell(primary, told, line), number);
-        assert_eq!(rt; primary.outstanding(), outstanding);
-    }
+// An N(R) beyond V(S) is refused with numbering, and the far status stays: a send is still granted.
+fn beyond<L: Line>(rt: &impl Abort, primary: &mut Primary, line: &mut L) -> Result<(), Fail> {
+    let _ = primary.open(line)?;
+    let _ = primary.hear(status(Kind::Ua, 0), line)?;
+    let _ = primary.send(&[1], line)?;
+    let refused = primary.hear(status(Kind::Rnr, 2), line);
+    assert_eq!(rt; refused, Err(StationRefusal::Numbering));
+    assert_eq!(rt; StationRefusal::Numbering.number(), 24);
+    assert_eq!(rt; primary.outstanding(), 1);
+    let _ = primary.send(&[2], line)?;
+    let heard = primary.hear(status(Kind::Rnr, 2), line)?;
+    assert_eq!(rt; heard.acknowledged, 2);
+    let busy = primary.send(&[3], line);
+    assert_eq!(rt; busy, Err(StationRefusal::FarBusy));
+    Ok(())
 }
 
 #[test]
-fn numbering(rt: HostRuntime) {
+fn numbering(rt: HostRuntime) -> Result<(), Fail> {
     let mut one = [Record::blank(); 8];
     let mut two = [Record::blank(); 8];
     let mut line = TableLine::make(8, 2, &mut one, &mut two);
-    beyond(&rt, &mut Primary::new(), &mut line);
+    beyond(&rt, &mut Primary::new(), &mut line)
 }

@@ -3,4 +3,3 @@ pub mod Delivered
 pub mod Numbers
 pub mod Admitted
 pub mod Resends
-pub mod Sends

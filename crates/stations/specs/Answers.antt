@@ -1,10 +1,10 @@
--- What the number rule, a send and a fetch are answered by.
-use Rattle.std.specs.Prelude.{ℕ, ◌≤◌, Bool, true, false, cond, List, [], ◌∷◌, ◌++◌, length, drop, Some, None, Ok, Err, Option, Result}
-use Rattle.stations.specs.declared.answer.Counts.{Counts}
-use Rattle.stations.specs.declared.answer.Taken.{Taken}
+-- What the number rule and a frame are answered by.
+use Rattle.std.specs.Prelude.{ℕ, Bool, true, false, cond, List, [], ◌∷◌, ◌++◌, length, drop, Some, None, Ok, Err, Option, Result}
+use Rattle.stations.specs.declared.answer.Heard.{Heard as Answer}
 use Rattle.stations.specs.declared.refusal.StationRefusal.{StationRefusal}
-use Rattle.stations.specs.Station.{Block, Station, passed, allowed, acknowledge, sent}
-use Rattle.lines.specs.Entries.{Lists}
+use Rattle.stations.specs.declared.refusal.StationRefusal.TheVariants.{Numbering}
+use Rattle.stations.specs.Station.{Block, Station, passed, allowed, acknowledge, sent, fetch_answer}
+use Rattle.stations.specs.Rule.{Heard}
 
 -- N(R) is allowed: how many blocks it passes
 abbrev pub passing : Station → ℕ → Option ℕ
@@ -18,6 +18,14 @@ abbrev pub some : List Block → Bool
 some [] = false
 some (z ∷ zs) = true
 
+abbrev pub rule_by : Bool → ℕ → Bool → Result Answer StationRefusal
+rule_by true n taken = Err Numbering
+rule_by false n taken = Ok (record { acknowledged = n; taken = taken })
+
+-- numbering, or how many blocks were acknowledged and whether one was taken in
+abbrev pub rule_answer : Heard → Result Answer StationRefusal
+rule_answer h = rule_by h.refused h.acknowledged (some h.taken)
+
 -- a send that is granted answers the N(S) of its block
 abbrev pub accept_by : Option StationRefusal → Station → Result ℕ StationRefusal
 accept_by (Some e) x = Err e
@@ -27,15 +35,6 @@ abbrev pub accept_leaves : Option StationRefusal → Station → Block → Stati
 accept_leaves (Some e) x z = x
 accept_leaves None x z = sent x z
 
--- and what it puts is counted
-abbrev pub sent_counts : Option StationRefusal → Counts → Result Counts StationRefusal
-sent_counts (Some e) n = Err e
-sent_counts None n = Ok n
-
-abbrev pub sent_line : Option StationRefusal → Lists → Lists → Lists
-sent_line (Some e) before after = before
-sent_line None before after = after
-
 -- a fetch that is granted answers the block's length, and writes the block to the front of the place
 abbrev pub fetch_length : Result Block StationRefusal → Result ℕ StationRefusal
 fetch_length (Err e) = Err e
@@ -44,12 +43,3 @@ fetch_length (Ok z) = Ok (length z)
 abbrev pub fetch_writes : Result Block StationRefusal → List ℕ → List ℕ
 fetch_writes (Err e) place = place
 fetch_writes (Ok z) place = z ++ drop (length z) place
-
--- a frame is answered by at most 8: a final and 7 blocks
-pub record FewFrames (c : Counts) : Type 0 where
-  pub put : c.put ≤ 8
-  pub lost : c.lost ≤ 8
-
-abbrev pub FewTaken : Result Taken StationRefusal → Type 0
-FewTaken (Ok a) = FewFrames a.counts
-FewTaken (Err e) = Unit {0}

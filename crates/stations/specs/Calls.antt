@@ -1,5 +1,5 @@
 -- The calls of the two stations over a line: the primary puts on way 1, the secondary on way 2.
-use Rattle.std.specs.Prelude.{ℕ, Bool, true, false, Ok, Err, Result, ◌==◌}
+use Rattle.std.specs.Prelude.{ℕ, Bool, true, false, List, Ok, Err, Result, ◌==◌}
 use Rattle.frames.specs.declared.way.Way.TheVariants.{One, Two}
 use Rattle.frames.specs.Parts.{Parts}
 use Rattle.lines.specs.Entries.{Lists, with_way}
@@ -10,8 +10,8 @@ use Rattle.stations.specs.declared.refusal.StationRefusal.{StationRefusal}
 use Rattle.stations.specs.declared.refusal.StationRefusal.TheVariants.{Numbering}
 use Rattle.stations.specs.declared.secondary.SecondaryMode.{SecondaryMode}
 use Rattle.stations.specs.Station.{Block}
-use Rattle.stations.specs.Puts.{counts, no_counts}
-use Rattle.stations.specs.Rule.{Heard, hear_s}
+use Rattle.stations.specs.Puts.{counts}
+use Rattle.stations.specs.Rule.{hear_s}
 use Rattle.stations.specs.Answers.{some}
 use Rattle.stations.specs.Primary.{Move, heard_status, primary_hears, primary_ticks, primary_opens, primary_closes, primary_polls, primary_sends}
 use Rattle.stations.specs.Secondary as answered
@@ -22,10 +22,6 @@ use Rattle.stations.specs.Views.{PrimaryView, SecondaryView, opened_by}
 abbrev pub taken_by : Bool → Counts → ℕ → Bool → Bool → Result Taken StationRefusal
 taken_by true c n taken over = Err Numbering
 taken_by false c n taken over = Ok (record { counts = c; acknowledged = n; taken = taken; passed = over })
-
--- the number rule alone puts no frame
-abbrev pub rule_answer : Heard → Result Taken StationRefusal
-rule_answer h = taken_by h.refused no_counts h.acknowledged (some h.taken) false
 
 -- ---- the primary
 

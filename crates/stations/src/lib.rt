@@ -10,11 +10,11 @@ mod secondary;
 mod station;
 mod window;
 
-pub use answer::{Counts, Taken};
+pub use answer::{Counts, Heard, Taken};
 pub use mode::Mode;
 pub use primary::Primary;
-use queue::Queue;
+pub use queue::Queue;
 pub use refusal::StationRefusal;
 pub use secondary::{Secondary, SecondaryMode};
-use station::{FarStatus, Station};
-use window::Window;
+pub use station::{FarStatus, Station};
+pub use window::Window;

@@ -6,10 +6,9 @@ use crate::{Queue, Window};
 
 mod again;
 mod calls;
-mod send;
 
 // The status that the other end told last: RR or RNR.
-#[derive(Clone, Copy)]
+#[derive(Clone, Copy, PartialEq, Eq, Debug)]
 pub enum FarStatus {
     Ready,
     Busy,

@@ -1,13 +1,13 @@
 // Checking, making and the calls of the octet line.
-ghost use Rattle.std.specs.Prelude.{◌≡◌, ℕ, ◌*◌, ◌/◌, ◌%◌, ◌≤◌, true, List, [], ◌∷◌, ◌++◌, map, length, drop, is_ok, if◌then◌else◌, nat_lt, slice_set};
+ghost use Rattle.std.specs.Prelude.{◌≡◌, ℕ, ◌*◌, ◌/◌, ◌%◌, List, [], ◌∷◌, ◌++◌, map, length, drop, is_ok, if◌then◌else◌, nat_lt, slice_set};
 ghost use Rattle.std.specs.Option.{option_map};
 ghost use Rattle.frames.specs.declared.way.Way.{Way as Ways};
 ghost use Rattle.lines.specs.Entries.{on, with_way, at};
-ghost use Rattle.lines.specs.Line.{older, check_answer, made, empty, strike_answer, strike_leaves, take_leaves};
+ghost use Rattle.lines.specs.Line.{older, check_answer, made, strike_answer, strike_leaves, take_leaves};
 ghost use Rattle.lines.specs.Ring.{held, behind, Kept};
-ghost use Rattle.lines.specs.Stored.{fit, turned, Told};
+ghost use Rattle.lines.specs.Stored.{fit, turned};
 ghost use Rattle.lines.specs.Packed.{packed_entry, Neat};
-ghost use Rattle.lines.specs.Octets.{records, records_on, struck_records, FoundIn, places, Zeroed, NeatIf, octet_plain, octet_meaning, octet_beyond, OctetTidy};
+ghost use Rattle.lines.specs.Octets.{records, records_on, struck_records, FoundIn, places, Zeroed, NeatIf, octet_meaning, octet_beyond, OctetTidy};
 
 use super::{OctetLine, packed, store};
 use crate::{Line, LineRefusal, Ring, measures};
@@ -25,7 +25,7 @@ fn turn(ring: &mut Ring<'_, u8>, lifetime: u16)
         return;
     };
     let age = packed::age_of(&oldest);
-    if !measures::leaves(age, lifetime) {
+    if age < lifetime {
         packed::set_age(&mut oldest, age + 1);
         let _fitted = store::push(ring, &oldest);
     }
@@ -60,27 +60,17 @@ impl<'a, 'b> OctetLine<'a, 'b> {
         ensures rest_one { behind result.one ≡ drop (72 * (made k d (length one.old / 72) (length two.old / 72)).capacity) one.old }
         ensures rest_two { behind result.two ≡ drop (72 * (made k d (length one.old / 72) (length two.old / 72)).capacity) two.old }
     {
-        if measures::granted(k, d, one.len() / 72, two.len() / 72) {
-            OctetLine::over(k, d as u16, one, two)
-        } else {
-            OctetLine::over(0, 1, one, two)
-        }
-    }
-
-    // An empty line of K and D over the first 72 × K octets of its memories.
-    fn over(k: usize, lifetime: u16, one: &'a mut [u8], two: &'b mut [u8]) -> OctetLine<'a, 'b>
-        requires k_in_bounds { 72 * k ≤ length one.old }
-        requires k_in_bounds_2 { 72 * k ≤ length two.old }
-        requires lifetime_value { fit k k lifetime ≡ true }
-        ensures means { octet_meaning result ≡ empty k lifetime }
-        ensures tidy { OctetTidy result }
-        ensures rest_one { behind result.one ≡ drop (72 * k) one.old }
-        ensures rest_two { behind result.two ≡ drop (72 * k) two.old }
-    {
-        OctetLine {
-            one: Ring::make(one, 72 * k),
-            two: Ring::make(two, 72 * k),
-            lifetime,
+        match measures::check(k, d, one.len() / 72, two.len() / 72) {
+            Ok(_) => OctetLine {
+                one: Ring::make(one, 72 * k),
+                two: Ring::make(two, 72 * k),
+                lifetime: d as u16,
+            },
+            Err(_) => OctetLine {
+                one: Ring::make(one, 0),
+                two: Ring::make(two, 0),
+                lifetime: 1,
+            },
         }
     }
 }
@@ -88,8 +78,7 @@ impl<'a, 'b> OctetLine<'a, 'b> {
 impl OctetLine<'_, '_> {
     // Whether the fields make a line that is not dead.
     fn sound(&self) -> bool
-        ensures is { result ≡ fit (places self.now.one) (places self.now.two) self.now.lifetime }
-        ensures tells { Told (octet_meaning self.now) (octet_plain self.now) result }
+        ensures { result ≡ fit (places self.now.one) (places self.now.two) self.now.lifetime }
     {
         measures::fits(
             store::room(&self.one),

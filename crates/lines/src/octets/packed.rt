@@ -1,12 +1,10 @@
 // A packed record of 72 octets: the frame's length, its age in two octets, low one first, its octets, zeros behind.
-ghost use Rattle.std.specs.Prelude.{◌≡◌, ◌+◌, ◌*◌, ◌≤◌, length, is_ok, if◌then◌else◌, Some, ◌==◌, nat_le};
+ghost use Rattle.std.specs.Prelude.{◌≡◌, ◌≤◌, length, is_ok, if◌then◌else◌, Some};
 ghost use Rattle.std.specs.Option.{option_map};
 ghost use Rattle.frames.specs.declared.way.Way.{Way as Ways};
 ghost use Rattle.frames.specs.Parts.{parts, info_of, parts_of};
 ghost use Rattle.frames.specs.Blocks.{parts_in};
-ghost use Rattle.frames.specs.Bits.{strike_leaves};
-ghost use Rattle.frames.specs.Laws.{Seen};
-ghost use Rattle.lines.specs.Line.{burst_by, strike_by, hit};
+ghost use Rattle.lines.specs.Line.{strike_by, hit};
 ghost use Rattle.lines.specs.Stored.{aged};
 ghost use Rattle.lines.specs.Packed.{age_in, burst, packed_entry, entry_told, Neat, Packs};
 
@@ -97,23 +95,7 @@ pub(crate) fn set_age(record: &mut [u8; 72], age: u16)
     record[2] = (age / 256) as u8;
 }
 
-// Turns over the bits of a frame's octets that a burst names, if it has a mask and lies within the frame.
-fn turn_over(octets: &mut [u8], start: usize, mask: u16) -> Result<(), LineRefusal>
-    ensures answers { result ≡ burst_by (mask == 0) (nat_le (start + 16) (8 * length octets.old)) }
-    ensures leaves { octets.new ≡ strike_leaves start mask octets.old }
-    ensures seen { Seen octets.old (is_ok result) octets.new }
-{
-    if mask == 0 {
-        return Err(LineRefusal::NoMask);
-    }
-    if strike(octets, start, mask) {
-        Ok(())
-    } else {
-        Err(LineRefusal::OffFrame)
-    }
-}
-
-// The same of a record's frame, unless it is struck already.
+// Turns over the bits of a record's frame that a burst names.
 pub(crate) fn hit(
     way: Way,
     record: &mut [u8; 72],
@@ -132,5 +114,12 @@ pub(crate) fn hit(
     let Ok(_) = read(way, &record[3..3 + n]) else {
         return Err(LineRefusal::Struck);
     };
-    turn_over(&mut record[3..3 + n], start, mask)
+    if mask == 0 {
+        return Err(LineRefusal::NoMask);
+    }
+    if strike(&mut record[3..3 + n], start, mask) {
+        Ok(())
+    } else {
+        Err(LineRefusal::OffFrame)
+    }
 }

@@ -8,8 +8,8 @@ use frames::FrameRefusal;
 impl From<FrameRefusal> for LineRefusal {
     ghost from_gives = { λ e r. r ≡ Frame e };
 
-    fn from(frame: FrameRefusal) -> LineRefusal {
-        LineRefusal::Frame(frame)
+    fn from(refusal: FrameRefusal) -> LineRefusal {
+        LineRefusal::Frame(refusal)
     }
 }
 

@@ -1,5 +1,5 @@
 // The calls on a ring for a run of elements.
-ghost use Rattle.std.specs.Prelude.{◌≡◌, ◌+◌, ◌++◌, length, take, drop, if◌then◌else◌, nat_le};
+ghost use Rattle.std.specs.Prelude.{◌≡◌, ◌+◌, ◌++◌, length, take, drop, if◌then◌else◌, nat_le, slice_index_or};
 ghost use Rattle.lines.specs.Ring.{laid, size, held, Kept};
 
 use super::{Blank, Ring};
@@ -11,8 +11,9 @@ impl<E: Blank> Ring<'_, E> {
         ensures holds { held self.new ≡ (if result then held self.old ++ run.now else held self.old) }
         ensures keeps { Kept E.Blank.bare self.old self.new }
     {
-        let t = self.bounds();
-        if run.len() > t.cap - t.count {
+        let len = self.len();
+        let size = self.size();
+        if len > size || run.len() > size - len {
             return false;
         }
         for e in run {
@@ -32,17 +33,28 @@ impl<E: Blank> Ring<'_, E> {
         }
     }
 
+    // What it holds at a place, or the element given where it holds none there.
+    fn get_or(&self, i: usize, or: E) -> E
+        ensures { result ≡ slice_index_or (held self.now) i or }
+    {
+        match self.get(i) {
+            Some(e) => e,
+            None => or,
+        }
+    }
+
     // Copies a run out, from a place on, as many as `out` takes; answers no and writes nothing where it holds fewer.
     pub fn peek(&self, from: usize, out: &mut [E]) -> bool
         ensures fits { result ≡ nat_le (from + length out.old) (length (held self.now)) }
         ensures gives { out.new ≡ (if result then take (length out.old) (drop from (held self.now)) else out.old) }
     {
-        let t = self.bounds();
-        if from > t.count || out.len() > t.count - from {
+        let len = self.len();
+        if from > len || out.len() > len - from {
             return false;
         }
+        let blank = E::blank();
         for j in 0..out.len() {
-            out[j] = self.find(t, from + j);
+            out[j] = self.get_or(from + j, blank);
         }
         true
     }
@@ -53,12 +65,12 @@ impl<E: Blank> Ring<'_, E> {
         ensures holds { held self.new ≡ (if result then laid (held self.old) from run.now else held self.old) }
         ensures keeps { Kept E.Blank.bare self.old self.new }
     {
-        let t = self.bounds();
-        if from > t.count || run.len() > t.count - from {
+        let len = self.len();
+        if from > len || run.len() > len - from {
             return false;
         }
         for (j, e) in run.iter().enumerate() {
-            self.lay(t, from + j, *e);
+            self.replace(from + j, *e);
         }
         true
     }

@@ -1,9 +1,9 @@
 // The calls on a ring for one element.
-ghost use Rattle.std.specs.Prelude.{◌≡◌, ◌<◌, ◌≤◌, [], ◌∷◌, ◌++◌, length, drop, if◌then◌else◌, Some, nat_le, nat_lt, slice_index_or, slice_set};
+ghost use Rattle.std.specs.Prelude.{◌≡◌, ℕ, ◌+◌, ◌-◌, ◌<◌, ◌≤◌, List, [], ◌∷◌, ◌++◌, length, take, drop, if◌then◌else◌, Some, None, nat_le, nat_lt, slice_index_or, slice_set};
 ghost use Rattle.lines.specs.Entries.{at};
-ghost use Rattle.lines.specs.Ring.{slot, size, held, behind, Blanked, Spans, Kept};
+ghost use Rattle.lines.specs.Ring.{lane, slot, size, held, free, behind, Blanked, Kept};
 
-use super::{Blank, Bounds, Ring};
+use super::{Blank, Ring};
 
 // The slot of a place.
 fn slot_of(cap: usize, first: usize, i: usize) -> usize
@@ -22,6 +22,14 @@ fn pick<E: Copy>(s: &[E], p: usize) -> E
     ensures { result ≡ slice_index_or s.now p result }
 {
     s[p]
+}
+
+// A ring's numbers that lie within its memory.
+#[derive(Clone, Copy)]
+struct Bounds {
+    cap: usize,
+    first: usize,
+    count: usize,
 }
 
 impl<'a, E: Blank> Ring<'a, E> {
@@ -48,8 +56,15 @@ impl<'a, E: Blank> Ring<'a, E> {
 
 impl<E: Blank> Ring<'_, E> {
     // The ring's numbers, brought within its memory.
-    pub(super) fn bounds(&self) -> Bounds
-        ensures { Spans self.now result.cap result.first result.count }
+    fn bounds(&self) -> Bounds
+        ensures fits { result.cap ≤ length self.now.slots.now }
+        ensures starts { result.first ≤ result.cap }
+        ensures holds { result.count ≤ result.cap }
+        ensures lane { lane self.now.slots.now self.now.cap self.now.first ≡ lane self.now.slots.now result.cap result.first }
+        ensures held { held self.now ≡ take result.count (lane self.now.slots.now result.cap result.first) }
+        ensures free { free self.now ≡ drop result.count (lane self.now.slots.now result.cap result.first) }
+        ensures size { result.cap ≡ size self.now }
+        ensures rest { behind self.now ≡ drop result.cap self.now.slots.now }
     {
         let cap = self.cap.min(self.slots.len());
         let first = if self.first <= cap { self.first } else { 0 };
@@ -71,67 +86,14 @@ impl<E: Blank> Ring<'_, E> {
         self.bounds().count
     }
 
-    // What it holds at a place.
-    pub(super) fn find(&self, t: Bounds, i: usize) -> E
-        requires spans { Spans self.now t.cap t.first t.count }
-        requires i_lt_count { i < t.count }
-        ensures { Some result ≡ at (held self.now) i }
-    {
-        let p = slot_of(t.cap, t.first, i);
-        pick(self.slots, p)
-    }
-
-    // Writes over a place that it holds.
-    pub(super) fn lay(&mut self, t: Bounds, i: usize, new: E)
-        requires spans_2 { Spans self.old t.cap t.first t.count }
-        requires i_lt_count { i < t.count }
-        ensures holds { held self.new ≡ slice_set (held self.old) i new }
-        ensures keeps { Kept E.Blank.bare self.old self.new }
-        ensures spans { Spans self.new t.cap t.first t.count }
-    {
-        let p = slot_of(t.cap, t.first, i);
-        self.slots[p] = new;
-        self.first = t.first;
-        self.count = t.count;
-        self.cap = t.cap;
-    }
-
-    // Adds one in the slot behind the last that it holds.
-    fn append(&mut self, t: Bounds, e: E)
-        requires spans { Spans self.old t.cap t.first t.count }
-        requires count_lt_cap { t.count < t.cap }
-        ensures holds { held self.new ≡ held self.old ++ e ∷ [] }
-        ensures keeps { Kept E.Blank.bare self.old self.new }
-    {
-        let p = slot_of(t.cap, t.first, t.count);
-        self.slots[p] = e;
-        self.first = t.first;
-        self.count = t.count + 1;
-        self.cap = t.cap;
-    }
-
-    // Takes the oldest out and makes its slot blank.
-    fn free(&mut self, t: Bounds, blank: E)
-        requires spans { Spans self.old t.cap t.first t.count }
-        requires count_nonzero { 0 < t.count }
-        requires blank_value { blank ≡ E.Blank.bare }
-        ensures holds { held self.new ≡ drop 1 (held self.old) }
-        ensures keeps { Kept E.Blank.bare self.old self.new }
-    {
-        let p = slot_of(t.cap, t.first, 0);
-        self.slots[p] = blank;
-        self.first = p + 1;
-        self.count = t.count - 1;
-        self.cap = t.cap;
-    }
-
     // What it holds at a place; place 0 is the oldest.
     pub fn get(&self, i: usize) -> Option<E>
         ensures { result ≡ at (held self.now) i }
     {
         let t = self.bounds();
         if i < t.count {
-            Some(self.find(t, i))
+            let p = slot_of(t.cap, t.first, i);
+            Some(pick(self.slots, p))
         } else {
             None
         }
@@ -142,9 +104,13 @@ impl<E: Blank> Ring<'_, E> {
         ensures holds { held self.new ≡ slice_set (held self.old) i new }
         ensures keeps { Kept E.Blank.bare self.old self.new }
     {
-        let t = self.bounds();
-        if i < t.count {
-            self.lay(t, i, new);
+        let b = self.bounds();
+        if i < b.count {
+            let p = slot_of(b.cap, b.first, i);
+            self.slots[p] = new;
+            self.first = b.first;
+            self.count = b.count;
+            self.cap = b.cap;
         }
     }
 
@@ -156,7 +122,11 @@ impl<E: Blank> Ring<'_, E> {
     {
         let t = self.bounds();
         if t.count < t.cap {
-            self.append(t, e);
+            let p = slot_of(t.cap, t.first, t.count);
+            self.slots[p] = e;
+            self.first = t.first;
+            self.count = t.count + 1;
+            self.cap = t.cap;
             true
         } else {
             false
@@ -169,11 +139,16 @@ impl<E: Blank> Ring<'_, E> {
         ensures holds { held self.new ≡ drop 1 (held self.old) }
         ensures keeps { Kept E.Blank.bare self.old self.new }
     {
+        let blank = E::blank();
         let t = self.bounds();
         if t.count > 0 {
-            let oldest = self.find(t, 0);
-            self.free(t, E::blank());
-            Some(oldest)
+            let p = slot_of(t.cap, t.first, 0);
+            let e = self.slots[p];
+            self.slots[p] = blank;
+            self.first = p + 1;
+            self.count = t.count - 1;
+            self.cap = t.cap;
+            Some(e)
         } else {
             None
         }

@@ -1,13 +1,13 @@
 // Checking, making and the calls of the table line.
-ghost use Rattle.std.specs.Prelude.{◌≡◌, ◌≤◌, true, List, [], ◌∷◌, ◌++◌, map, length, drop, if◌then◌else◌, nat_lt, slice_set};
+ghost use Rattle.std.specs.Prelude.{◌≡◌, List, [], ◌∷◌, ◌++◌, map, length, drop, if◌then◌else◌, nat_lt, slice_set};
 ghost use Rattle.std.specs.Option.{option_map};
 ghost use Rattle.lines.specs.Entries.{on, with_way, at};
-ghost use Rattle.lines.specs.Line.{older, check_answer, made, empty, take_leaves};
+ghost use Rattle.lines.specs.Line.{older, check_answer, made, take_leaves};
 ghost use Rattle.lines.specs.Ring.{size, held, behind, Kept};
-ghost use Rattle.lines.specs.Stored.{fit, turned, Told};
+ghost use Rattle.lines.specs.Stored.{fit, turned};
 ghost use Rattle.lines.specs.Record.{blank_record, entry_of};
 ghost use Rattle.lines.specs.Facts.{Worked};
-ghost use Rattle.lines.specs.Table.{table_plain, table_meaning, table_beyond, TableTidy};
+ghost use Rattle.lines.specs.Table.{table_meaning, table_beyond, TableTidy};
 ghost use Rattle.lines.specs.declared.record.Record.{Record as Records};
 
 use super::TableLine;
@@ -22,7 +22,7 @@ fn turn(ring: &mut Ring<'_, Record>, lifetime: u16)
     let Some(mut oldest) = ring.pop() else {
         return;
     };
-    if !measures::leaves(oldest.age, lifetime) {
+    if oldest.age < lifetime {
         oldest.age += 1;
         let _fitted = ring.push(oldest);
     }
@@ -60,32 +60,17 @@ impl<'a, 'b> TableLine<'a, 'b> {
         ensures rest_one { behind result.one ≡ drop (made k d (length one.old) (length two.old)).capacity one.old }
         ensures rest_two { behind result.two ≡ drop (made k d (length one.old) (length two.old)).capacity two.old }
     {
-        if measures::granted(k, d, one.len(), two.len()) {
-            TableLine::over(k, d as u16, one, two)
-        } else {
-            TableLine::over(0, 1, one, two)
-        }
-    }
-
-    // An empty line of K and D over the first K slots of its memories.
-    fn over(
-        k: usize,
-        lifetime: u16,
-        one: &'a mut [Record],
-        two: &'b mut [Record],
-    ) -> TableLine<'a, 'b>
-        requires k_in_bounds { k ≤ length one.old }
-        requires k_in_bounds_2 { k ≤ length two.old }
-        requires lifetime_value { fit k k lifetime ≡ true }
-        ensures means { table_meaning result ≡ empty k lifetime }
-        ensures tidy { TableTidy result }
-        ensures rest_one { behind result.one ≡ drop k one.old }
-        ensures rest_two { behind result.two ≡ drop k two.old }
-    {
-        TableLine {
-            one: Ring::make(one, k),
-            two: Ring::make(two, k),
-            lifetime,
+        match measures::check(k, d, one.len(), two.len()) {
+            Ok(_) => TableLine {
+                one: Ring::make(one, k),
+                two: Ring::make(two, k),
+                lifetime: d as u16,
+            },
+            Err(_) => TableLine {
+                one: Ring::make(one, 0),
+                two: Ring::make(two, 0),
+                lifetime: 1,
+            },
         }
     }
 }
@@ -93,8 +78,7 @@ impl<'a, 'b> TableLine<'a, 'b> {
 impl TableLine<'_, '_> {
     // Whether the fields make a line that is not dead.
     fn sound(&self) -> bool
-        ensures is { result ≡ fit (size self.now.one) (size self.now.two) self.now.lifetime }
-        ensures tells { Told (table_meaning self.now) (table_plain self.now) result }
+        ensures { result ≡ fit (size self.now.one) (size self.now.two) self.now.lifetime }
     {
         measures::fits(self.one.size(), self.two.size(), self.lifetime)
     }

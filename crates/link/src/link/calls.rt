@@ -1,9 +1,8 @@
 ghost use Rattle.std.specs.Prelude.{◌≡◌};
 ghost use Rattle.link.specs.Calls.{asked, after, opens_answer, opens_leaves, closes_answer, closes_leaves, polls_answer, polls_leaves, sends_answer, sends_leaves, takes_answer, takes_leaves, ticks_answer, ticks_leaves, fetches_answer, fetches_leaves, fetched, fetch_writes, strikes_answer, strikes_leaves};
-ghost use Rattle.link.specs.State.{fault_of, check_by, check_answer, made};
+ghost use Rattle.link.specs.State.{check_by, check_answer, made};
 ghost use Rattle.link.specs.declared.end.End.TheVariants.{Primary as AtPrimary, Secondary as AtSecondary};
 ghost use Rattle.link.specs.Promise.{Law};
-ghost use Rattle.link.specs.Sizes.{FewAnswered};
 ghost use Rattle.link.specs.Views.{model, with_state};
 
 use super::Link;
@@ -27,16 +26,6 @@ impl<L: Line> Link<L> {
         Ok(())
     }
 
-    // The refusal of the check, if any.
-    fn fault(line: &L, limit: usize) -> Option<LinkRefusal>
-        ensures { result ≡ fault_of (L.Line.meaning line.now) limit }
-    {
-        match Link::check(line, limit) {
-            Ok(_) => None,
-            Err(refusal) => Some(refusal),
-        }
-    }
-
     // A new link: both ends closed, reset, with nothing waiting and no timer. Where its check says yes, it keeps the
     // promise over every list of calls that it then meets.
     pub fn make(line: L, limit: usize) -> Link<L>
@@ -45,10 +34,13 @@ impl<L: Line> Link<L> {
         ensures keeps { L.Line.beyond result.line ≡ L.Line.beyond line }
         ensures tidy { L.Line.tidy line → L.Line.tidy result.line }
     {
-        let fault = Link::fault(&line, limit);
+        let fault = match Link::check(&line, limit) {
+            Ok(_) => None,
+            Err(refusal) => Some(refusal),
+        };
         Link {
             line,
-            limit: limit.min(65535) as u16,
+            limit,
             fault,
             primary: Primary::new(),
             secondary: Secondary::new(),
@@ -56,7 +48,7 @@ impl<L: Line> Link<L> {
     }
 
     // A link that its check refused answers that number before all else.
-    pub(super) fn sound(&self) -> Result<(), LinkRefusal>
+    fn sound(&self) -> Result<(), LinkRefusal>
         ensures { result ≡ check_by (model L.Line.meaning self.now).fault }
     {
         match self.fault {
@@ -139,7 +131,7 @@ impl<L: Line> Link<L> {
     {
         self.sound()?;
         self.line.tick();
-        Ok(self.primary.tick(self.limit as usize, &mut self.line))
+        Ok(self.primary.tick(self.limit, &mut self.line))
     }
 
     // The oldest waiting block of an end leaves, in any mode; it is written to the front of the place, and the octets
@@ -182,7 +174,6 @@ impl<L: Line> Link<L> {
 
     fn take_primary(&mut self) -> Result<Taken, LinkRefusal>
         ensures answers { result ≡ takes_answer (model L.Line.meaning self.old).measures AtPrimary (model L.Line.meaning self.old).now }
-        ensures few { FewAnswered result }
         ensures leaves { model L.Line.meaning self.new ≡ with_state (takes_leaves (model L.Line.meaning self.old).measures AtPrimary (model L.Line.meaning self.old).now) (model L.Line.meaning self.old) }
         ensures keeps { L.Line.beyond self.new.line ≡ L.Line.beyond self.old.line }
         ensures tidy { L.Line.tidy self.old.line → L.Line.tidy self.new.line }
@@ -193,7 +184,6 @@ impl<L: Line> Link<L> {
 
     fn take_secondary(&mut self) -> Result<Taken, LinkRefusal>
         ensures answers { result ≡ takes_answer (model L.Line.meaning self.old).measures AtSecondary (model L.Line.meaning self.old).now }
-        ensures few { FewAnswered result }
         ensures leaves { model L.Line.meaning self.new ≡ with_state (takes_leaves (model L.Line.meaning self.old).measures AtSecondary (model L.Line.meaning self.old).now) (model L.Line.meaning self.old) }
         ensures keeps { L.Line.beyond self.new.line ≡ L.Line.beyond self.old.line }
         ensures tidy { L.Line.tidy self.old.line → L.Line.tidy self.new.line }
@@ -205,7 +195,6 @@ impl<L: Line> Link<L> {
     // A line's take, then that station's rule.
     pub fn take(&mut self, end: End) -> Result<Taken, LinkRefusal>
         ensures answers { result ≡ asked (model L.Line.meaning self.old) (λ g x. takes_answer g end x) }
-        ensures few { FewAnswered result }
         ensures leaves { model L.Line.meaning self.new ≡ after (model L.Line.meaning self.old) (λ g x. takes_leaves g end x) }
         ensures keeps { L.Line.beyond self.new.line ≡ L.Line.beyond self.old.line }
         ensures tidy { L.Line.tidy self.old.line → L.Line.tidy self.new.line }

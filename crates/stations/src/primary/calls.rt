@@ -1,12 +1,11 @@
-ghost use Rattle.std.specs.Prelude.{◌≡◌, true, length, Some, None, Ok};
+ghost use Rattle.std.specs.Prelude.{◌≡◌, ◌≤◌, true, length, None, Ok};
 ghost use Rattle.frames.specs.Blocks.{parts_in};
 ghost use Rattle.lines.specs.Entries.{with_way};
 ghost use Rattle.stations.specs.declared.mode.Mode.TheVariants.{Closed};
-ghost use Rattle.stations.specs.Station.{fresh, outstanding, fetch_answer};
-ghost use Rattle.stations.specs.Answers.{fetch_length, fetch_writes, FewTaken};
+ghost use Rattle.stations.specs.Station.{fresh, outstanding, fetch_answer, fetch_leaves};
+ghost use Rattle.stations.specs.Answers.{fetch_length, fetch_writes};
 ghost use Rattle.frames.specs.declared.way.Way.TheVariants.{One};
-ghost use Rattle.stations.specs.Primary.{due};
-ghost use Rattle.stations.specs.Puts.{put, counts};
+ghost use Rattle.stations.specs.Puts.{put, status, counts};
 ghost use Rattle.stations.specs.Views.{primary_of, fetched_primary, is_busy};
 ghost use Rattle.stations.specs.Calls.{opens, closes, polls, sends, ticks, hears, primary_after, one_after, move_counts, move_answer, status_hears, status_move};
 
@@ -34,13 +33,6 @@ impl Primary {
         self.mode
     }
 
-    // The ticks since the request that it waits for an answer to.
-    pub fn timer(&self) -> Option<usize>
-        ensures { result ≡ (primary_of self.now).timer }
-    {
-        self.timer // off where no request is waiting
-    }
-
     // How many blocks are sent and not acknowledged.
     pub fn outstanding(&self) -> usize
         ensures { result ≡ outstanding (primary_of self.now).station }
@@ -55,21 +47,22 @@ impl Primary {
         self.station.waiting()
     }
 
-    // The timer is 0, and what is due goes out: SARM (opening), DISC (closing) or a poll, its own status with B 1 (open).
-    fn ask<L: Line>(&mut self, line: &mut L) -> Counts
-        ensures answers { result ≡ counts 1 (L.Line.meaning line.old).one (put (L.Line.meaning line.old).capacity (L.Line.meaning line.old).one (due self.old.mode (primary_of self.old).station)) }
-        ensures leaves { primary_of self.new ≡ record { mode = self.old.mode; timer = Some 0; station = (primary_of self.old).station } }
-        ensures puts { L.Line.meaning line.new ≡ with_way One (put (L.Line.meaning line.old).capacity (L.Line.meaning line.old).one (due self.old.mode (primary_of self.old).station)) (L.Line.meaning line.old) }
+    // Its own status with B 1 goes out.
+    fn put_poll<L: Line>(&self, line: &mut L) -> Counts
+        ensures answers { result ≡ counts 1 (L.Line.meaning line.old).one (put (L.Line.meaning line.old).capacity (L.Line.meaning line.old).one (status (primary_of self.now).station)) }
+        ensures puts { L.Line.meaning line.new ≡ with_way One (put (L.Line.meaning line.old).capacity (L.Line.meaning line.old).one (status (primary_of self.now).station)) (L.Line.meaning line.old) }
         ensures keeps { L.Line.beyond line.new ≡ L.Line.beyond line.old }
         ensures tidy { L.Line.tidy line.old → L.Line.tidy line.new }
     {
-        self.timer = Some(0);
-        let (kind, nr, b) = match self.mode {
-            Mode::Opening => (Kind::Sarm, 0, 0),
-            Mode::Closing => (Kind::Disc, 0, 0),
-            Mode::Open | Mode::Closed => (self.station.own_status(), self.station.expected(), 1),
-        };
-        deliver(line, Way::One, kind, 0, nr, b, &[])
+        deliver(
+            line,
+            Way::One,
+            self.station.own_status(),
+            0,
+            self.station.expected(),
+            1,
+            &[],
+        )
     }
 
     // Closed: becomes opening, puts SARM, timer 0.
@@ -83,7 +76,8 @@ impl Primary {
         match self.mode {
             Mode::Closed => {
                 self.mode = Mode::Opening;
-                Ok(self.ask(line))
+                self.timer = Some(0);
+                Ok(deliver(line, Way::One, Kind::Sarm, 0, 0, 0, &[]))
             }
             _ => Err(StationRefusal::Mode),
         }
@@ -100,7 +94,8 @@ impl Primary {
         match (self.mode, self.timer) {
             (Mode::Open, None) => {
                 self.mode = Mode::Closing;
-                Ok(self.ask(line))
+                self.timer = Some(0);
+                Ok(deliver(line, Way::One, Kind::Disc, 0, 0, 0, &[]))
             }
             (Mode::Open, Some(_)) => Err(StationRefusal::Polling),
             _ => Err(StationRefusal::Mode),
@@ -116,7 +111,10 @@ impl Primary {
         ensures tidy { L.Line.tidy line.old → L.Line.tidy line.new }
     {
         match (self.mode, self.timer) {
-            (Mode::Open, None) => Ok(self.ask(line)),
+            (Mode::Open, None) => {
+                self.timer = Some(0);
+                Ok(self.put_poll(line))
+            }
             (Mode::Open, Some(_)) => Err(StationRefusal::Polling),
             _ => Err(StationRefusal::Mode),
         }
@@ -134,7 +132,16 @@ impl Primary {
             Mode::Open => true,
             _ => false,
         };
-        self.station.send(opened, octets, line, Way::One)
+        let ns = self.station.accept(opened, octets)?;
+        Ok(deliver(
+            line,
+            Way::One,
+            Kind::I,
+            ns,
+            self.station.expected(),
+            0,
+            octets,
+        ))
     }
 
     // The oldest waiting block leaves, in any mode, and is written to the front of the place.
@@ -162,7 +169,12 @@ impl Primary {
             self.timer = Some(n + 1);
             return Counts { put: 0, lost: 0 };
         }
-        self.ask(line)
+        self.timer = Some(0);
+        match self.mode {
+            Mode::Opening => deliver(line, Way::One, Kind::Sarm, 0, 0, 0, &[]),
+            Mode::Closing => deliver(line, Way::One, Kind::Disc, 0, 0, 0, &[]),
+            Mode::Open | Mode::Closed => self.put_poll(line),
+        }
     }
 
     // RR or RNR when open: the number rule; on a final the timer is off, and outstanding blocks are sent again.
@@ -174,53 +186,73 @@ impl Primary {
         line: &mut L,
     ) -> Result<Taken, StationRefusal>
         ensures answers { result ≡ move_answer (status_hears (primary_of self.old) (is_busy far) nr b (L.Line.meaning line.old)) (L.Line.meaning line.old) }
-        ensures few { FewTaken result }
         ensures leaves { primary_of self.new ≡ status_move self.old.mode (status_hears (primary_of self.old) (is_busy far) nr b (L.Line.meaning line.old)) }
         ensures puts { L.Line.meaning line.new ≡ one_after (Ok (status_hears (primary_of self.old) (is_busy far) nr b (L.Line.meaning line.old))) (L.Line.meaning line.old) }
         ensures keeps { L.Line.beyond line.new ≡ L.Line.beyond line.old }
         ensures tidy { L.Line.tidy line.old → L.Line.tidy line.new }
     {
-        let mut heard = self.station.hear_status(far, nr)?;
-        if b == 1 && self.timer.is_some() {
+        let heard = self.station.hear_status(far, nr)?;
+        let counts = if b == 1 && self.timer.is_some() {
             self.timer = None;
-            heard.counts = self.station.again(line, Way::One);
-        }
-        Ok(heard)
+            self.station.again(line, Way::One)
+        } else {
+            Counts { put: 0, lost: 0 }
+        };
+        Ok(Taken {
+            counts,
+            acknowledged: heard.acknowledged,
+            taken: heard.taken,
+            passed: false,
+        })
     }
 
     // What it does on a frame, by its mode and the frame's kind.
     pub fn hear<L: Line>(&mut self, frame: FrameBuf, line: &mut L) -> Result<Taken, StationRefusal>
         ensures answers { result ≡ move_answer (hears (primary_of self.old) (parts_in frame) (L.Line.meaning line.old)) (L.Line.meaning line.old) }
-        ensures few { FewTaken result }
         ensures leaves { primary_of self.new ≡ primary_after (Ok (hears (primary_of self.old) (parts_in frame) (L.Line.meaning line.old))) (primary_of self.old) }
         ensures puts { L.Line.meaning line.new ≡ one_after (Ok (hears (primary_of self.old) (parts_in frame) (L.Line.meaning line.old))) (L.Line.meaning line.old) }
         ensures keeps { L.Line.beyond line.new ≡ L.Line.beyond line.old }
         ensures tidy { L.Line.tidy line.old → L.Line.tidy line.new }
     {
-        let heeded = Taken {
-            counts: Counts { put: 0, lost: 0 },
-            acknowledged: 0,
-            taken: false,
-            passed: false,
-        };
+        let counts = Counts { put: 0, lost: 0 };
         match (self.mode, frame.kind) {
             (Mode::Opening, Kind::Ua) => {
                 self.station.reset();
                 self.mode = Mode::Open;
                 self.timer = None;
-                Ok(heeded)
+                Ok(Taken {
+                    counts,
+                    acknowledged: 0,
+                    taken: false,
+                    passed: false,
+                })
             }
             (Mode::Closing, Kind::Ua | Kind::Dm) => {
                 self.mode = Mode::Closed;
                 self.timer = None;
-                Ok(heeded)
+                Ok(Taken {
+                    counts,
+                    acknowledged: 0,
+                    taken: false,
+                    passed: false,
+                })
             }
-            (Mode::Open, Kind::I) => self.station.hear_block(frame.ns, frame.nr, frame.block),
+            (Mode::Open, Kind::I) => {
+                let heard = self.station.hear_block(frame.ns, frame.nr, frame.block)?;
+                Ok(Taken {
+                    counts,
+                    acknowledged: heard.acknowledged,
+                    taken: heard.taken,
+                    passed: false,
+                })
+            }
             (Mode::Open, Kind::Rr) => self.hear_status(FarStatus::Ready, frame.nr, frame.b, line),
             (Mode::Open, Kind::Rnr) => self.hear_status(FarStatus::Busy, frame.nr, frame.b, line),
             _ => Ok(Taken {
+                counts,
+                acknowledged: 0,
+                taken: false,
                 passed: true,
-                ..heeded
             }),
         }
     }

@@ -1,11 +1,10 @@
-ghost use Rattle.std.specs.Prelude.{◌≡◌, suc, true, false, length, is_ok, Ok};
+ghost use Rattle.std.specs.Prelude.{◌≡◌, suc, false, length, Ok};
 ghost use Rattle.frames.specs.Blocks.{parts_in};
-ghost use Rattle.frames.specs.Writer.{admit_answer};
 ghost use Rattle.frames.specs.declared.way.Way.TheVariants.{Two};
 ghost use Rattle.lines.specs.Entries.{with_way};
 ghost use Rattle.stations.specs.Station.{fresh, outstanding, fetch_answer};
-ghost use Rattle.stations.specs.Puts.{put, plain, status, again, again_tries, counts};
-ghost use Rattle.stations.specs.Answers.{fetch_length, fetch_writes, FewFrames, FewTaken};
+ghost use Rattle.stations.specs.Puts.{put, status, again, again_tries, counts};
+ghost use Rattle.stations.specs.Answers.{fetch_length, fetch_writes};
 ghost use Rattle.stations.specs.Views.{secondary_of, opened_by, fetched_secondary, is_busy};
 ghost use Rattle.stations.specs.Calls.{replies, returns, secondary_after, two_after, reply_counts, reply_answer, status_replies, status_reply};
 
@@ -14,23 +13,6 @@ use crate::puts::deliver;
 use crate::{Counts, FarStatus, Station, StationRefusal, Taken};
 use frames::{FrameBuf, Kind, Way};
 use lines::Line;
-
-// A frame without numbers is put in answer.
-fn answer<L: Line>(line: &mut L, kind: Kind) -> Taken
-    requires { is_ok (admit_answer Two (plain kind)) ≡ true }
-    ensures answers { result ≡ record { counts = counts 1 (L.Line.meaning line.old).two (put (L.Line.meaning line.old).capacity (L.Line.meaning line.old).two (plain kind)); acknowledged = 0; taken = false; passed = false } }
-    ensures few { FewFrames result.counts }
-    ensures puts { L.Line.meaning line.new ≡ with_way Two (put (L.Line.meaning line.old).capacity (L.Line.meaning line.old).two (plain kind)) (L.Line.meaning line.old) }
-    ensures keeps { L.Line.beyond line.new ≡ L.Line.beyond line.old }
-    ensures tidy { L.Line.tidy line.old → L.Line.tidy line.new }
-{
-    Taken {
-        counts: deliver(line, Way::Two, kind, 0, 0, 0, &[]),
-        acknowledged: 0,
-        taken: false,
-        passed: false,
-    }
-}
 
 impl Secondary {
     // Closed, reset, with nothing waiting.
@@ -75,7 +57,16 @@ impl Secondary {
             SecondaryMode::Open => true,
             SecondaryMode::Closed => false,
         };
-        self.station.send(opened, octets, line, Way::Two)
+        let ns = self.station.accept(opened, octets)?;
+        Ok(deliver(
+            line,
+            Way::Two,
+            Kind::I,
+            ns,
+            self.station.expected(),
+            0,
+            octets,
+        ))
     }
 
     // The oldest waiting block leaves, in any mode, and is written to the front of the place.
@@ -90,7 +81,6 @@ impl Secondary {
     // The answer to a poll: its own status with B 1, then every outstanding block again.
     fn answer_poll<L: Line>(&self, line: &mut L) -> Counts
         ensures answers { result ≡ counts (suc (again_tries (secondary_of self.now).station)) (L.Line.meaning line.old).two (again (L.Line.meaning line.old).capacity (secondary_of self.now).station (put (L.Line.meaning line.old).capacity (L.Line.meaning line.old).two (status (secondary_of self.now).station))) }
-        ensures few { FewFrames result }
         ensures puts { L.Line.meaning line.new ≡ with_way Two (again (L.Line.meaning line.old).capacity (secondary_of self.now).station (put (L.Line.meaning line.old).capacity (L.Line.meaning line.old).two (status (secondary_of self.now).station))) (L.Line.meaning line.old) }
         ensures keeps { L.Line.beyond line.new ≡ L.Line.beyond line.old }
         ensures tidy { L.Line.tidy line.old → L.Line.tidy line.new }
@@ -120,23 +110,28 @@ impl Secondary {
         line: &mut L,
     ) -> Result<Taken, StationRefusal>
         ensures answers { result ≡ reply_answer (status_replies (secondary_of self.old) (is_busy far) nr b (L.Line.meaning line.old)) (L.Line.meaning line.old) }
-        ensures few { FewTaken result }
         ensures leaves { secondary_of self.new ≡ status_reply self.old.mode (status_replies (secondary_of self.old) (is_busy far) nr b (L.Line.meaning line.old)) }
         ensures puts { L.Line.meaning line.new ≡ two_after (Ok (status_replies (secondary_of self.old) (is_busy far) nr b (L.Line.meaning line.old))) (L.Line.meaning line.old) }
         ensures keeps { L.Line.beyond line.new ≡ L.Line.beyond line.old }
         ensures tidy { L.Line.tidy line.old → L.Line.tidy line.new }
     {
-        let mut heard = self.station.hear_status(far, nr)?;
-        if b == 1 {
-            heard.counts = self.answer_poll(line);
-        }
-        Ok(heard)
+        let heard = self.station.hear_status(far, nr)?;
+        let counts = if b == 1 {
+            self.answer_poll(line)
+        } else {
+            Counts { put: 0, lost: 0 }
+        };
+        Ok(Taken {
+            counts,
+            acknowledged: heard.acknowledged,
+            taken: heard.taken,
+            passed: false,
+        })
     }
 
     // What it does on a frame, by its mode and the frame's kind.
     pub fn hear<L: Line>(&mut self, frame: FrameBuf, line: &mut L) -> Result<Taken, StationRefusal>
         ensures answers { result ≡ reply_answer (replies (secondary_of self.old) (parts_in frame) (L.Line.meaning line.old)) (L.Line.meaning line.old) }
-        ensures few { FewTaken result }
         ensures leaves { secondary_of self.new ≡ secondary_after (Ok (replies (secondary_of self.old) (parts_in frame) (L.Line.meaning line.old))) (secondary_of self.old) }
         ensures puts { L.Line.meaning line.new ≡ two_after (Ok (replies (secondary_of self.old) (parts_in frame) (L.Line.meaning line.old))) (L.Line.meaning line.old) }
         ensures keeps { L.Line.beyond line.new ≡ L.Line.beyond line.old }
@@ -146,28 +141,64 @@ impl Secondary {
             (_, Kind::Sarm) => {
                 self.station.reset();
                 self.mode = SecondaryMode::Open;
-                Ok(answer(line, Kind::Ua))
+                let counts = deliver(line, Way::Two, Kind::Ua, 0, 0, 0, &[]);
+                Ok(Taken {
+                    counts,
+                    acknowledged: 0,
+                    taken: false,
+                    passed: false,
+                })
             }
             (SecondaryMode::Open, Kind::Disc) => {
                 self.mode = SecondaryMode::Closed;
-                Ok(answer(line, Kind::Ua))
+                let counts = deliver(line, Way::Two, Kind::Ua, 0, 0, 0, &[]);
+                Ok(Taken {
+                    counts,
+                    acknowledged: 0,
+                    taken: false,
+                    passed: false,
+                })
             }
-            (SecondaryMode::Closed, Kind::Disc) => Ok(answer(line, Kind::Dm)),
+            (SecondaryMode::Closed, Kind::Disc) => {
+                let counts = deliver(line, Way::Two, Kind::Dm, 0, 0, 0, &[]);
+                Ok(Taken {
+                    counts,
+                    acknowledged: 0,
+                    taken: false,
+                    passed: false,
+                })
+            }
             (SecondaryMode::Open, Kind::I) => {
-                self.station.hear_block(frame.ns, frame.nr, frame.block)
+                let heard = self.station.hear_block(frame.ns, frame.nr, frame.block)?;
+                let counts = Counts { put: 0, lost: 0 };
+                Ok(Taken {
+                    counts,
+                    acknowledged: heard.acknowledged,
+                    taken: heard.taken,
+                    passed: false,
+                })
             }
-            (SecondaryMode::Open, Kind::Rr) => {
-                self.hear_status(FarStatus::Ready, frame.nr, frame.b, line)
+            (SecondaryMode::Open, Kind::Rr) => self.hear_status(
+                FarStatus::Ready,
+                frame.nr,
+                frame.b,
+                line,
+            ),
+            (SecondaryMode::Open, Kind::Rnr) => self.hear_status(
+                FarStatus::Busy,
+                frame.nr,
+                frame.b,
+                line,
+            ),
+            _ => {
+                let counts = Counts { put: 0, lost: 0 };
+                Ok(Taken {
+                    counts,
+                    acknowledged: 0,
+                    taken: false,
+                    passed: true,
+                })
             }
-            (SecondaryMode::Open, Kind::Rnr) => {
-                self.hear_status(FarStatus::Busy, frame.nr, frame.b, line)
-            }
-            _ => Ok(Taken {
-                counts: Counts { put: 0, lost: 0 },
-                acknowledged: 0,
-                taken: false,
-                passed: true,
-            }),
         }
     }
 }

@@ -2,12 +2,11 @@ ghost use Rattle.std.specs.Prelude.{◌≡◌, ◌≤◌, length, IfOk};
 ghost use Rattle.frames.specs.Blocks.{octets_in};
 ghost use Rattle.stations.specs.Station.{fresh, reset, outstanding, own_status, send_check, fetch_answer, fetch_leaves};
 ghost use Rattle.stations.specs.Rule.{hear_i, hear_s};
-ghost use Rattle.stations.specs.Answers.{passing, after_number, accept_by, accept_leaves, fetch_length, fetch_writes, FewTaken};
-ghost use Rattle.stations.specs.Calls.{rule_answer};
+ghost use Rattle.stations.specs.Answers.{passing, after_number, rule_answer, accept_by, accept_leaves, fetch_length, fetch_writes};
 ghost use Rattle.stations.specs.Views.{station_of, is_busy};
 
 use super::{FarStatus, Station};
-use crate::{Counts, Queue, StationRefusal, Taken, Window};
+use crate::{Heard, Queue, StationRefusal, Window};
 use frames::{Block, Kind};
 
 impl Station {
@@ -89,41 +88,38 @@ impl Station {
         ns: u8,
         nr: u8,
         block: Block,
-    ) -> Result<Taken, StationRefusal>
+    ) -> Result<Heard, StationRefusal>
         ensures answers { result ≡ rule_answer (hear_i (station_of self.old) ns nr (octets_in block)) }
-        ensures few { FewTaken result }
         ensures leaves { station_of self.new ≡ (hear_i (station_of self.old) ns nr (octets_in block)).station }
     {
         let Some(acknowledged) = self.acknowledge(nr) else {
             return Err(StationRefusal::Numbering);
         };
-        let taken = ns == self.vr && self.queue.push(block);
-        if taken {
-            self.vr = (self.vr + 1) % 8;
+        if ns != self.vr || !self.queue.push(block) {
+            return Ok(Heard {
+                acknowledged,
+                taken: false,
+            });
         }
-        Ok(Taken {
-            counts: Counts { put: 0, lost: 0 },
+        self.vr = (self.vr + 1) % 8;
+        Ok(Heard {
             acknowledged,
-            taken,
-            passed: false,
+            taken: true,
         })
     }
 
     // RR or RNR: the number rule, and the far status.
-    pub(crate) fn hear_status(&mut self, far: FarStatus, nr: u8) -> Result<Taken, StationRefusal>
+    pub(crate) fn hear_status(&mut self, far: FarStatus, nr: u8) -> Result<Heard, StationRefusal>
         ensures answers { result ≡ rule_answer (hear_s (station_of self.old) (is_busy far) nr) }
-        ensures few { FewTaken result }
         ensures leaves { station_of self.new ≡ (hear_s (station_of self.old) (is_busy far) nr).station }
     {
         let Some(acknowledged) = self.acknowledge(nr) else {
             return Err(StationRefusal::Numbering);
         };
         self.far = far;
-        Ok(Taken {
-            counts: Counts { put: 0, lost: 0 },
+        Ok(Heard {
             acknowledged,
             taken: false,
-            passed: false,
         })
     }
 

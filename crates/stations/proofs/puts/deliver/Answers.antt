@@ -1,4 +1,3 @@
--- A frame that can be written is put and counted, or lost and counted.
 use Rattle.std.proofs.Common.{◌∙◌, arith}
 use Rattle.frames.specs.Parts.{parts}
 use Rattle.stations.proofs.Delivered.{leaves, granted, lost}

@@ -1,4 +1,3 @@
--- One more block has moved down; in the end all have.
 use Rattle.std.proofs.Common.{◌-◌, set, ap, ◌∙◌, arith}
 use Rattle.stations.proofs.BlockRows.{moved_more, moved_all}
 use Rattle.stations.proofs.rows.move_down.Goals as goal

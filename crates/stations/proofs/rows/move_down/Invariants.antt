@@ -1,4 +1,3 @@
--- How far the blocks have moved down.
 use Rattle.std.proofs.Common.{◌≡◌, ◌-◌, ◌++◌, take, drop}
 use Rattle.stations.proofs.rows.move_down.Given as goal
 

@@ -1,5 +1,4 @@
-use Rattle.std.proofs.Common.{sym, ◌∙◌, arith}
-use Rattle.std.proofs.lemmas.Bool.{ltb-true, ltb-false}
+use Rattle.std.proofs.Common.{◌∙◌, arith}
 use Rattle.lines.specs.Octets.{records}
 use Rattle.lines.specs.Packed.{packed_entry}
 use Rattle.lines.specs.Ring.{held}
@@ -9,24 +8,24 @@ use Rattle.lines.proofs.OctetLines.{turned_on, turned_out}
 use Rattle.lines.proofs.Runs.{kept_then, held_fit}
 use Rattle.lines.proofs.octets.calls.turn.Goals as goal
 
-pub returns-then-not-leaves : goal.returns-then-not-leaves
-returns-then-not-leaves c =
+pub returns-then-age-lifetime : goal.returns-then-age-lifetime
+returns-then-age-lifetime c =
     let d = c.in-Some.ensures in
     let p = c.push-fitted.ensures in
     record {
       holds = λ w. turned_on c.args.lifetime (records c.args.ring.now) _ c.in-Some.oldest c.age-of-age.result c.age-of-age.ensures d.gives d.holds w _ c.set-age.new.record c.push-fitted.result _
-          (omega (arith, ltb-false c.args.lifetime _ (sym c.leaves.ensures ∙ c.if-not-leaves.true))) (c.set-age.ensures.ages w)
+          c.if-age-lifetime.true (c.set-age.ensures.ages w)
           (omega (arith, cut_length (held c.args.ring.now), held_fit c.args.ring.now, d.keeps.slots)) p.fits p.holds;
       even = p.even ∙ d.even;
       keeps = kept_then _ _ _ _ d.keeps p.keeps;
       zeroed = λ z. p.zeroed (d.zeroed z) (c.set-age.ensures.neat (d.neat z));
     }
 
-pub returns-else-not-leaves : goal.returns-else-not-leaves
-returns-else-not-leaves c =
+pub returns-else-age-lifetime : goal.returns-else-age-lifetime
+returns-else-age-lifetime c =
     let d = c.in-Some.ensures in
     record {
-      holds = λ w. turned_out c.args.lifetime (records c.args.ring.now) _ c.in-Some.oldest c.age-of-age.result c.age-of-age.ensures d.gives d.holds w (omega (arith, ltb-true c.args.lifetime _ (sym c.leaves.ensures ∙ c.if-not-leaves.false)));
+      holds = λ w. turned_out c.args.lifetime (records c.args.ring.now) _ c.in-Some.oldest c.age-of-age.result c.age-of-age.ensures d.gives d.holds w c.if-age-lifetime.false;
       even = d.even;
       keeps = d.keeps;
       zeroed = d.zeroed;

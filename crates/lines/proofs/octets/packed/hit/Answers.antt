@@ -1,11 +1,12 @@
-use Rattle.std.proofs.Common.{◌≡◌, ◌+◌, ◌-◌, ◌*◌, false, eqb, leb, length, get_or, take, drop, is_ok, Some, sym, refl, ap, ◌∙◌, arith}
+use Rattle.std.proofs.Common.{◌≡◌, ◌+◌, ◌-◌, ◌<◌, true, false, leb, ◌++◌, length, get_or, take, drop, Some, sym, refl, ap, ◌∙◌, subst, arith}
 use Rattle.std.proofs.lemmas.List.{length-drop, length-take}
-use Rattle.std.proofs.lemmas.Bool.{cond-false}
+use Rattle.std.proofs.lemmas.Bool.{cond-false, eq-eqb}
 use Rattle.frames.specs.Parts.{parts_of}
 use Rattle.frames.specs.declared.refusal.FrameRefusal.TheVariants.{Check}
-use Rattle.frames.specs.Bits.{strike_answer}
-use Rattle.lines.specs.Line.{burst_by, strike_by}
-use Rattle.lines.proofs.Packs.{sized, too_long, unread, is_read, burst_ok, burst_entry, burst_flips, hit_neat}
+use Rattle.frames.specs.Bits.{strike_leaves}
+use Rattle.lines.specs.Line.{bits, burst_by, strike_by}
+use Rattle.lines.specs.Packed.{age_in, Neat, packed_entry}
+use Rattle.lines.proofs.Packs.{sized, too_long, unread, is_read, burst_told, hit_entry, hit_neat, hit_none}
 use Rattle.lines.proofs.octets.packed.hit.Goals as goal
 
 pub returns-then-n-gt68 : goal.returns-then-n-gt68
@@ -19,8 +20,20 @@ returns-in-default c =
     let e = unread c.args.way r (3 + get_or r 0 0 - 3) (omega arith) _ c.in-default.ensures.answers in
     record { answers = sym (ap (λ x. strike_by (Some x) c.args.start c.args.mask) e); leaves = refl; neat = λ h. h; flips = refl }
 
-pub returns : goal.returns
-returns c =
+pub returns-then-mask-eq0 : goal.returns-then-mask-eq0
+returns-then-mask-eq0 c =
+    let r = c.args.record.now in
+    let p = parts_of c.in-Ok.field-0 in
+    let f = is_read c.args.way r (3 + get_or r 0 0 - 3) (omega arith) p c.in-Ok.ensures.answers in
+    record {
+      answers = sym (ap (λ x. strike_by (Some x) c.args.start c.args.mask) f ∙ ap (λ m. burst_by m (leb (c.args.start + 16) (bits p))) (eq-eqb c.args.mask 0 c.if-mask-eq0.true));
+      leaves = refl;
+      neat = λ h. h;
+      flips = refl;
+    }
+
+pub returns-then-strike : goal.returns-then-strike
+returns-then-strike c =
     let w = c.args.way in
     let r = c.args.record.now in
     let m = 3 + get_or c.args.record.now 0 0 - 3 in
@@ -29,14 +42,35 @@ returns c =
     let a = c.in-Ok.ensures in
     let f = is_read w r m me p a.answers in
     let z = sized w p (take m (drop 3 r)) (a.writes-back p refl) in
-    let b = c.turn-over.ensures in
-    let ys = c.turn-over.new.octets in
-    let l : length ys ≡ m = omega (arith, c.turn-over.auto.octets, length-take m (drop 3 r), length-drop 3 r, c.told-record, c.if-n-gt68.false) in
-    let ok = ap is_ok b.answers ∙ burst_ok (eqb c.args.mask 0) _ in
-    let same : is_ok c.turn-over.result ≡ false → ys ≡ take m (drop 3 r) = λ no. b.leaves ∙ cond-false (strike_answer (length (take m (drop 3 r))) c.args.start c.args.mask) _ _ (sym ok ∙ no) in
+    let lo : 0 < c.args.mask = omega (arith, c.if-mask-eq0.false) in
+    let ys = c.strike.new.octets in
+    let l : length ys ≡ m = omega (arith, c.strike.auto.octets, length-take m (drop 3 r), length-drop 3 r, c.told-record, c.if-n-gt68.false) in
     record {
-      answers = b.answers ∙ ap (λ k. burst_by (eqb c.args.mask 0) (leb (c.args.start + 16) (8 * k))) z.whole ∙ sym (ap (λ x. strike_by (Some x) c.args.start c.args.mask) f);
-      leaves = burst_entry w m r ys p Check (is_ok c.turn-over.result) c.told-record me l f (b.seen w p (sym a.answers)) same;
+      answers = burst_told (age_in r) p c.args.start c.args.mask lo _ (length (take m (drop 3 r))) true f z.whole (sym c.if-strike.ensures.answers);
+      leaves = hit_entry w m r ys p Check c.told-record me l f (c.strike.ensures.seen w p (sym a.answers) c.if-strike.true);
       neat = hit_neat w m r ys c.told-record me l;
-      flips = burst_flips w m r ys c.args.start c.args.mask (is_ok c.turn-over.result) me b.leaves same;
+      flips =
+          ap (λ zs. take 3 r ++ (zs ++ drop m (drop 3 r))) c.strike.ensures.leaves
+          ∙ ap (λ k. take 3 r ++ (strike_leaves c.args.start c.args.mask (take k (drop 3 r)) ++ drop k (drop 3 r))) me;
+    }
+
+pub returns-else-strike : goal.returns-else-strike
+returns-else-strike c =
+    let w = c.args.way in
+    let r = c.args.record.now in
+    let m = 3 + get_or c.args.record.now 0 0 - 3 in
+    let me : m ≡ get_or r 0 0 = omega arith in
+    let p = parts_of c.in-Ok.field-0 in
+    let a = c.in-Ok.ensures in
+    let f = is_read w r m me p a.answers in
+    let z = sized w p (take m (drop 3 r)) (a.writes-back p refl) in
+    let lo : 0 < c.args.mask = omega (arith, c.if-mask-eq0.false) in
+    let ys = c.strike.new.octets in
+    let no = sym c.if-strike.ensures.answers in
+    let same = hit_none w m r ys (c.strike.ensures.leaves ∙ cond-false _ _ _ no) in
+    record {
+      answers = burst_told (age_in r) p c.args.start c.args.mask lo _ (length (take m (drop 3 r))) false f z.whole no;
+      leaves = ap (packed_entry w) same;
+      neat = subst Neat (sym same);
+      flips = same;
     }

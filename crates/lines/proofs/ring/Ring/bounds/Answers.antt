@@ -1,7 +1,6 @@
 use Rattle.std.proofs.Common.{◌≡◌, ◌≤◌, min, length, take, drop, sym, ap, ◌∙◌, arith}
-use Rattle.lines.specs.Ring.{lane, held}
+use Rattle.lines.specs.Ring.{lane}
 use Rattle.lines.proofs.Lanes.{lane_length, lane_kept, lane_past, rest_within, take_within, drop_within}
-use Rattle.lines.proofs.Places.{held_length}
 use Rattle.lines.proofs.ring.Ring.bounds.Goals as goal
 use Rattle.lines.proofs.ring.Ring.bounds.Goals.{then-self-cap, else-self-cap}
 
@@ -19,15 +18,13 @@ returns g c =
     let ll = lane_length r.slots.now cap c.if-self-cap.first in
     let lc : length (lane r.slots.now cap c.if-self-cap.first) ≡ cap = omega arith in
     let ne : c.min-count.result ≡ min r.count cap = omega (arith, c.min-count.ensures) in
-    let starts = elim c.if-self-cap.branch as (λ _. c.if-self-cap.first ≤ cap) [ then-self-cap w ↦ omega (arith, w.first-is, w.if-self-cap.true) | else-self-cap w ↦ omega (arith, w.first-is) ] in
-    let h : held r ≡ take c.min-count.result (lane r.slots.now cap c.if-self-cap.first) = ap (λ z. take r.count z) ln ∙ take_within _ r.count _ cap lc ne in
     record {
       fits = fits;
-      starts = starts;
-      fills = omega arith;
-      holds = h;
-      frees = ap (λ z. drop r.count z) ln ∙ drop_within _ r.count _ cap lc ne;
-      counts = sym (ap length h ∙ held_length r.slots.now cap c.if-self-cap.first c.min-count.result (record { fits = fits; starts = starts; holds = omega arith }));
-      slots = ce;
+      starts = elim c.if-self-cap.branch [ then-self-cap w ↦ omega (arith, w.first-is, w.if-self-cap.true) | else-self-cap w ↦ omega (arith, w.first-is) ];
+      holds = omega arith;
+      lane = ln;
+      held = ap (λ z. take r.count z) ln ∙ take_within _ r.count _ cap lc ne;
+      free = ap (λ z. drop r.count z) ln ∙ drop_within _ r.count _ cap lc ne;
+      size = ce;
       rest = rest_within r.slots.now r.cap ∙ ap (λ k. drop k r.slots.now) (sym ce);
     }

@@ -7,24 +7,20 @@ use Rattle.lines.proofs.Runs.{poke_all, kept_same, kept_then}
 use Rattle.lines.proofs.ring.Ring.poke.Goals as goal
 
 pub loop-j-init : goal.loop-j-init
-loop-j-init g c = (paste-zero (held c.args.self.now) c.args.from c.args.run.now, kept_same _ _, c.bounds-t.ensures)
+loop-j-init g c = (paste-zero (held c.args.self.now) c.args.from c.args.run.now, kept_same _ _)
 
 pub loop-j-preserved : goal.loop-j-preserved
 loop-j-preserved g c =
     let es = held c.args.self.now in (
-      c.lay.ensures.holds ∙ ap₂ (λ y e. set y (c.args.from + c.loop-j.j) e) c.loop-j.invariant.0 c.index-run-j.is
-          ∙ paste_more es c.args.from c.args.run.now c.loop-j.j c.index-run-j.result (omega (arith, c.bounds-t.ensures.counts, c.if-from-t.false, c.if-run-t.false, c.loop-j-test.true)) c.loop-j-test.true,
-      kept_then _ _ _ _ c.loop-j.invariant.1 c.lay.ensures.keeps,
-      c.lay.ensures.spans,
+      c.replace.ensures.holds ∙ ap₂ (λ y e. set y (c.args.from + c.loop-j.j) e) c.loop-j.invariant.0 c.index-run-j.is
+          ∙ paste_more es c.args.from c.args.run.now c.loop-j.j c.index-run-j.result (omega (arith, c.len-len.ensures, c.if-from-len.false, c.if-run-len.false, c.loop-j-test.true)) c.loop-j-test.true,
+      kept_then _ _ _ _ c.loop-j.invariant.1 c.replace.ensures.keeps,
     )
 
 pub returns : goal.returns
 returns g c =
     record {
-      fits = sym (le-leb _ _ (omega (arith, c.bounds-t.ensures.counts, c.if-from-t.false, c.if-run-t.false)));
+      fits = sym (le-leb _ _ (omega (arith, c.len-len.ensures, c.if-from-len.false, c.if-run-len.false)));
       holds = c.loop-j.invariant.0 ∙ poke_all (held c.args.self.now) c.args.run.now c.args.from c.loop-j.j (omega (arith, c.loop-j.auto.j-end, c.loop-j-test.false));
       keeps = c.loop-j.invariant.1;
     }
-
-pub lay-requires : goal.lay-requires
-lay-requires g c = (c.loop-j.invariant.2, omega (arith, c.if-from-t.false, c.if-run-t.false, c.loop-j-test.true))

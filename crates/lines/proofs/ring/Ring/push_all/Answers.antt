@@ -7,14 +7,14 @@ use Rattle.lines.proofs.ring.Ring.push_all.Goals as goal
 pub loop-e-preserved : goal.loop-e-preserved
 loop-e-preserved g c = (
   push_more (held c.args.self.now) (held c.loop-e.self) _ c.args.run.now c.loop-e.e-index _ c.push-fitted.result c.e-item.result (omega arith)
-      (omega (arith, c.loop-e.invariant.1.slots, c.bounds-t.ensures.counts, c.bounds-t.ensures.slots, c.bounds-t.ensures.fills, c.if-run-t.false)) c.loop-e.invariant.0 c.push-fitted.ensures.fits c.e-item.is c.push-fitted.ensures.holds,
+      (omega (arith, c.loop-e.invariant.1.slots, c.len-len.ensures, c.size-size.ensures, c.if-len-size.false, c.if-run-size.false)) c.loop-e.invariant.0 c.push-fitted.ensures.fits c.e-item.is c.push-fitted.ensures.holds,
   kept_then _ _ _ _ c.loop-e.invariant.1 c.push-fitted.ensures.keeps,
 )
 
 pub returns : goal.returns
 returns g c =
     record {
-      fits = sym (le-leb _ _ (omega (arith, c.bounds-t.ensures.counts, c.bounds-t.ensures.slots, c.bounds-t.ensures.fills, c.if-run-t.false)));
+      fits = sym (le-leb _ _ (omega (arith, c.len-len.ensures, c.size-size.ensures, c.if-len-size.false, c.if-run-size.false)));
       holds = push_all (held c.args.self.now) _ c.args.run.now c.loop-e.e-index (omega arith) c.loop-e.invariant.0;
       keeps = c.loop-e.invariant.1;
     }

@@ -1,20 +1,33 @@
-use Rattle.std.proofs.Common.{◌≡◌, true, length, drop, sym, ap, ◌∙◌, arith}
-use Rattle.std.proofs.lemmas.Bool.Decides.{nat_tests}
-use Rattle.lines.specs.Line.{measured}
-use Rattle.lines.proofs.Stores.{made_is}
+use Rattle.std.proofs.Common.{map, drop, ap, ◌∙◌, ap₂, arith}
+use Rattle.lines.specs.Record.{entry_of}
+use Rattle.lines.specs.Ring.{size}
+use Rattle.lines.specs.Stored.{lists_by}
+use Rattle.lines.proofs.Stores.{short_life, made_ok, made_err}
 use Rattle.lines.proofs.table.TableLine.make.Goals as goal
 
-pub over-requires : goal.over-requires
-over-requires c =
-    let h : measured c.args.k c.args.d (length c.args.one.now) (length c.args.two.now) ≡ true = sym c.granted.ensures ∙ c.if-granted.true in
-    (grind (arith, nat_tests), grind (arith, nat_tests), grind (arith, nat_tests))
+pub overflow-cast-result : goal.overflow-cast-result
+overflow-cast-result c = let h = short_life c.args.k c.args.d _ _ _ c.in-Ok.ensures in omega arith
 
-pub returns-then-granted : goal.returns-then-granted
-returns-then-granted c =
-    let e = made_is c.args.k c.args.d _ _ (sym c.granted.ensures ∙ c.if-granted.true) in
+pub returns-in-Ok : goal.returns-in-Ok
+returns-in-Ok c =
+    let a = c.make.ensures in
+    let b = c.make-in-Ok.ensures in
+    let m = made_ok c.args.k c.args.d _ _ _ _ _ c.in-Ok.ensures a.slots b.slots in
     record {
-      means = c.over.ensures.means ∙ sym e;
-      tidy = c.over.ensures.tidy;
-      rest-one = c.over.ensures.rest-one ∙ ap (λ l. drop l.capacity c.args.one.now) (sym e);
-      rest-two = c.over.ensures.rest-two ∙ ap (λ l. drop l.capacity c.args.two.now) (sym e);
+      means = ap₂ (λ xs ys. lists_by (size c.make-in-Ok.result) (record { one = map entry_of xs; two = map entry_of ys; capacity = size c.make.result; lifetime = c.args.d })) a.holds b.holds ∙ m.lists;
+      tidy = (a.blank, b.blank);
+      rest-one = a.rest ∙ ap (λ k. drop k c.args.one.now) m.one;
+      rest-two = b.rest ∙ ap (λ k. drop k c.args.two.now) m.two;
+    }
+
+pub returns-in-Err : goal.returns-in-Err
+returns-in-Err c =
+    let a = c.make-in-Err.ensures in
+    let b = c.make-in-Err-2.ensures in
+    let m = made_err c.args.k c.args.d _ _ _ _ _ c.in-Err.ensures a.slots b.slots in
+    record {
+      means = ap₂ (λ xs ys. lists_by (size c.make-in-Err-2.result) (record { one = map entry_of xs; two = map entry_of ys; capacity = size c.make-in-Err.result; lifetime = 1 })) a.holds b.holds ∙ m.lists;
+      tidy = (a.blank, b.blank);
+      rest-one = a.rest ∙ ap (λ k. drop k c.args.one.now) m.one;
+      rest-two = b.rest ∙ ap (λ k. drop k c.args.two.now) m.two;
     }

@@ -4,8 +4,7 @@ use Rattle.frames.specs.declared.way.Way.TheVariants.{One, Two}
 use Rattle.lines.specs.Record.{entry_of}
 use Rattle.lines.specs.Ring.{held}
 use Rattle.lines.proofs.Stores.{change, pair_by, both_by}
-use Rattle.lines.specs.Table.{table_plain}
-use Rattle.lines.proofs.Tables.{with_one, with_two}
+use Rattle.lines.proofs.Tables.{plain, with_one, with_two}
 use Rattle.lines.proofs.table.TableLine.replace.Goals as goal
 
 pub returns-in-One : goal.returns-in-One
@@ -15,7 +14,7 @@ returns-in-One c =
     rw c.in-One.is
     (record {
       leaves = with_one t c.replace.new.self _ p.keeps.slots (ap (λ es. map entry_of es) p.holds ∙ map-set entry_of (held t.one) c.args.place c.args.new)
-          ∙ change _ (table_plain t) One (λ zs. set zs c.args.place (entry_of c.args.new)) refl;
+          ∙ change _ (plain t) One (λ zs. set zs c.args.place (entry_of c.args.new)) refl;
       keeps = pair_by p.keeps.rest refl;
       tidy = both_by p.keeps.blanks (λ h. h);
     })
@@ -27,7 +26,7 @@ returns-in-Two c =
     rw c.in-Two.is
     (record {
       leaves = with_two t c.replace-in-Two.new.self _ p.keeps.slots (ap (λ es. map entry_of es) p.holds ∙ map-set entry_of (held t.two) c.args.place c.args.new)
-          ∙ change _ (table_plain t) Two (λ zs. set zs c.args.place (entry_of c.args.new)) refl;
+          ∙ change _ (plain t) Two (λ zs. set zs c.args.place (entry_of c.args.new)) refl;
       keeps = pair_by refl p.keeps.rest;
       tidy = both_by (λ h. h) p.keeps.blanks;
     })

@@ -9,6 +9,6 @@ use Rattle.link.proofs.link.Link.make.Goals as goal
 pub returns : goal.returns
 returns g c =
     let l = g.L.Line.meaning c.args.line in
-    let e : model_of c.fault-fault.result l c.min.result (primary_of c.new.result) (secondary_of c.new-2.result)
+    let e : model_of c.match-check.fault l c.args.limit (primary_of c.new.result) (secondary_of c.new-2.result)
     ≡ made l c.args.limit = search rules in
     record { makes = e; law = subst Law (sym e) (law l c.args.limit); keeps = refl; tidy = λ t. t }

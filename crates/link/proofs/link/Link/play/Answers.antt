@@ -1,5 +1,5 @@
 use Rattle.std.proofs.Common.{◌≡◌, map, sym, ◌∙◌, arith}
-use Rattle.link.specs.History.{led}
+use Rattle.link.specs.History.{run}
 use Rattle.link.specs.Plays.{meant}
 use Rattle.link.specs.Views.{model}
 use Rattle.link.proofs.CallLists.{play_more, play_all, lasting}
@@ -18,7 +18,7 @@ loop-call-preserved g c = (
 pub returns : goal.returns
 returns g c =
     let m = g.L.Line.meaning in
-    let r : model m c.loop-call.self ≡ led (model m c.args.self.now) (map meant c.args.calls.now) =
+    let r : model m c.loop-call.self ≡ run (model m c.args.self.now) (map meant c.args.calls.now) =
     sym (play_all (model m c.loop-call.self) c.args.calls.now c.loop-call.call-index (omega arith)) ∙ c.loop-call.invariant.0 in
     record {
       runs = r;

@@ -1,4 +1,3 @@
--- The oldest block is answered and leaves the row.
 use Rattle.std.proofs.Common.{arith}
 use Rattle.stations.proofs.BlockRows.{row_at, row_drop}
 use Rattle.stations.proofs.queue.Queue.pop.Goals as goal

@@ -1,4 +1,3 @@
--- The block joins the row.
 use Rattle.std.proofs.Common.{ltb, sym, ap, ◌∙◌, arith}
 use Rattle.std.proofs.lemmas.Bool.{lt-ltb}
 use Rattle.stations.proofs.BlockRows.{row_length, row_push}

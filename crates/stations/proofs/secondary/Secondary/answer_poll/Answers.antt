@@ -1,5 +1,4 @@
--- A status and then the window again are the answer to a poll.
-use Rattle.std.proofs.Common.{◌≡◌, [], ◌∙◌, ap₂, arith}
+use Rattle.std.proofs.Common.{◌≡◌, [], ◌∙◌, ap₂}
 use Rattle.frames.specs.Parts.{parts}
 use Rattle.stations.specs.Puts.{status}
 use Rattle.stations.specs.Views.{station_of}
@@ -18,11 +17,6 @@ returns g c =
       answers =
           answered_counts l k (m c.again-blocks.new.line) x p e c.deliver-status.ensures.leaves c.deliver-status.result c.again-blocks.result
           c.deliver-status.ensures.answers c.again-blocks.ensures.answers;
-      few =
-          record {
-            put = omega (arith, c.deliver-status.ensures.few.0, c.again-blocks.ensures.few.0);
-            lost = omega (arith, c.deliver-status.ensures.few.1, c.again-blocks.ensures.few.1);
-          };
       puts = answered_line l k (m c.again-blocks.new.line) x p e c.deliver-status.ensures.leaves c.again-blocks.ensures.leaves;
       keeps = c.again-blocks.ensures.keeps ∙ c.deliver-status.ensures.keeps;
       tidy = λ t. c.again-blocks.ensures.tidy (c.deliver-status.ensures.tidy t);

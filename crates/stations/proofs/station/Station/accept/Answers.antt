@@ -1,4 +1,3 @@
--- Once a block is accepted the window is still as long as outstanding.
 use Rattle.std.proofs.Common.{◌≡◌, ◌+◌, ◌-◌, ◌%◌, ◌<◌, true, length, ◌∙◌, arith}
 use Rattle.std.proofs.lemmas.Bool.{and_from, lt-ltb, le-leb, cond-true}
 use Rattle.stations.specs.Blocks.{in_window}

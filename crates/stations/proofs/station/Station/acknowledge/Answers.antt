@@ -1,4 +1,3 @@
--- Once blocks are acknowledged the window is still as long as outstanding.
 use Rattle.std.proofs.Common.{◌%◌, arith}
 use Rattle.stations.specs.Blocks.{in_window}
 use Rattle.stations.proofs.Numbers.{left_over}

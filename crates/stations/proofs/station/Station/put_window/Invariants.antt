@@ -1,4 +1,3 @@
--- How far sending again has come.
 use Rattle.std.proofs.Common.{◌≡◌, ◌+◌, ◌≤◌, length, drop}
 use Rattle.lines.specs.Entries.{on, with_way}
 use Rattle.stations.specs.Puts.{again_from}

@@ -1,4 +1,3 @@
--- Below the count stands a block of the row, beyond it none.
 use Rattle.std.proofs.Common.{sym, arith}
 use Rattle.stations.specs.Blocks.{in_window}
 use Rattle.stations.proofs.BlockRows.{row_at, row_length, at_none}

@@ -1,4 +1,3 @@
--- The count is the length of the row of blocks.
 use Rattle.std.proofs.Common.{sym, arith}
 use Rattle.stations.proofs.BlockRows.{row_length}
 use Rattle.stations.proofs.window.Window.len.Goals as goal

@@ -1,4 +1,3 @@
--- A block that fits joins the row, and one that does not leaves it alone.
 use Rattle.std.proofs.Common.{◌≡◌, true, ◌&&◌, ltb, [], ◌∷◌, ◌++◌, length, sym, ap, ◌∙◌, ap₂, arith}
 use Rattle.std.proofs.lemmas.Bool.{lt-ltb, cond-false}
 use Rattle.stations.specs.Blocks.{in_window}

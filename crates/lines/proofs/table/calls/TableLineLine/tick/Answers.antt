@@ -4,7 +4,7 @@ use Rattle.lines.specs.Record.{entry_of}
 use Rattle.lines.specs.Ring.{size, held}
 use Rattle.lines.specs.Stored.{lists_by}
 use Rattle.lines.proofs.Stores.{ticked, pair_by, both_by}
-use Rattle.lines.specs.Table.{table_plain}
+use Rattle.lines.proofs.Tables.{plain}
 use Rattle.lines.proofs.table.calls.TableLineLine.tick.Goals as goal
 
 pub returns : goal.returns
@@ -15,7 +15,7 @@ returns c =
     record {
       leaves = ap₂ (λ m zs. lists_by (size c.age-2.new.ring) (record { one = zs; two = map entry_of (held c.age-2.new.ring); capacity = m; lifetime = t.lifetime })) a.keeps.slots a.holds
           ∙ ap₂ (λ n zs. lists_by n (record { one = older t.lifetime (map entry_of (held t.one)); two = zs; capacity = size t.one; lifetime = t.lifetime })) b.keeps.slots b.holds
-          ∙ ticked (size t.two) (table_plain t);
+          ∙ ticked (size t.two) (plain t);
       keeps = pair_by a.keeps.rest b.keeps.rest;
       tidy = both_by a.keeps.blanks b.keeps.blanks;
     }
