@@ -1,4 +1,5 @@
 // A console: reads commands, one a line, and writes one line for each.
+#![tactic(auto)]
 mod answer;
 mod arguments;
 mod command;

@@ -1,4 +1,5 @@
 // Tests of frames on octets that were computed outside, and at the edges of every refusal.
+#![tactic(auto)]
 #[cfg(test)]
 mod tests {
     use frames::{Frame, FrameRefusal, Kind, Way, read, strike, write};

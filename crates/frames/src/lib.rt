@@ -1,5 +1,6 @@
 // The frames of the link as octets: their kinds, their check sequence, reading, writing and bit errors.
 #![tactic(auto)]
+
 mod bits;
 mod block;
 mod control;

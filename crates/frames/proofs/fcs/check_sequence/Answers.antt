@@ -17,4 +17,4 @@ returns c =
     let all : bit_xor c.loop-octet.register 0xFFFF ≡ fcs c.args.octets.now =
     ap (λ s. bit_xor s 0xFFFF)
     (sym (at_drop_all (register c.loop-octet.register) c.args.octets.now c.loop-octet.octet-index (omega arith)) ∙ c.loop-octet.invariant) in
-    record { answers = all; bit-by-bit = all ∙ fcs_serial c.args.octets.now (λ k. search rules); digits = refl }
+    record { answers = all; bit_by_bit = all ∙ fcs_serial c.args.octets.now (λ k. search rules); digits = refl }

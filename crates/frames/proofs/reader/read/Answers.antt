@@ -22,8 +22,8 @@ returns c =
     let w = c.args.way in
     let os = c.args.octets.now in
     let long : 4 ≤ length c.args.octets.now = search rules in
-    let a : meant c.frame-of.result ≡ read_answer c.args.way c.args.octets.now =
-    c.frame-of.ensures
+    let a : meant c.frame_of.result ≡ read_answer c.args.way c.args.octets.now =
+    c.frame_of.ensures
     ∙ ap (said_answer w (control_octet os)) (cut_out os long)
     ∙ sym (passes w os long (omega arith) (sym c.if-not-checked.ensures) c.if-address-ne1.false) in
-    record { answers = a; writes-back = λ p h. read_written w os p (λ k. search rules) (sym a ∙ h); worked = control-octets }
+    record { answers = a; writes_back = λ p h. read_written w os p (λ k. search rules) (sym a ∙ h); worked = control-octets }

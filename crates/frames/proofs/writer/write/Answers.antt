@@ -12,12 +12,12 @@ returns-then-out-len c =
     let p = parts c.args.kind c.args.ns c.args.nr c.args.b c.args.info.now in
     let o = c.args.out.now in
     let e =
-    full (admit_answer c.args.way p) c.in-ok-control.control c.args.info.now (length o)
-    (sym c.in-ok-control.ensures) c.if-out-len.true in
+    full (admit_answer c.args.way p) c.in_ok-control.control c.args.info.now (length o)
+    (sym c.in_ok-control.ensures) c.if-out-len.true in
     record {
       answers = sym (ap counted e);
       leaves = sym (ap (λ r. laid r o) e);
-      reads-back = λ n h. absurd (let z : ◌≡◌ {A = ℕ} 0 1 = cc in omega arith);
+      reads_back = λ n h. absurd (let z : ◌≡◌ {A = ℕ} 0 1 = cc in omega arith);
     }
 
 pub returns : goal.returns
@@ -26,14 +26,14 @@ returns c =
     let i = c.args.info.now in
     let p = parts c.args.kind c.args.ns c.args.nr c.args.b i in
     let o = c.args.out.now in
-    let d = c.in-ok-control.control in
-    let a = sym c.in-ok-control.ensures in
+    let d = c.in_ok-control.control in
+    let a = sym c.in_ok-control.ensures in
     let l = octets_length d i in
     let e = fits (admit_answer w p) d i (length o) a c.if-out-len.false in
     record {
       answers = sym (ap counted e ∙ ap Ok l);
       leaves = c.lay.ensures ∙ sym (ap (λ r. laid r o) e ∙ ap (λ n. octets_of d i ++ drop n o) l);
-      reads-back = λ n h.
+      reads_back = λ n h.
           let k : length i + 4 ≡ n = cc in
           ap (read_answer w)
           (ap (take n) c.lay.ensures ∙ take_at (octets_of d i) (drop (length i + 4) o) n (l ∙ k))

@@ -5,5 +5,5 @@ use Rattle.frames.proofs.block.Block.of.Goals as goal
 
 pub returns : goal.returns
 returns c =
-    let e = c.copy-from-slice.ensures.after in
+    let e = c.copy_from_slice.ensures.after in
     ap Some (take_at _ _ _ (ap length e) ∙ e) ∙ sym (cond-true _ _ _ (le-leb _ _ c.if-n-gt64.false))

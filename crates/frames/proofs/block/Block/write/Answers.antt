@@ -5,5 +5,5 @@ use Rattle.frames.proofs.block.Block.write.Goals as goal
 
 pub returns : goal.returns
 returns c =
-    let e = c.copy-from-slice.ensures.after in
+    let e = c.copy_from_slice.ensures.after in
     record { answers = sym (le-leb _ _ c.if-n-gt64.false); leaves = take_at _ _ _ (ap length e) ∙ e }
