@@ -1,5 +1,6 @@
 // The line between two modules: one interface, and its implementations over lent memory.
 #![tactic(auto)]
+
 mod line;
 mod measures;
 mod octets;

@@ -14,10 +14,10 @@ returns-then-n-gt68 c =
     let e = too_long c.args.way c.args.record.now c.told-record c.if-n-gt68.true in
     record { answers = sym (ap (λ x. strike_by (Some x) c.args.start c.args.mask) e); leaves = refl; neat = λ h. h; flips = refl }
 
-pub returns-in-default : goal.returns-in-default
-returns-in-default c =
+pub returns-in_default : goal.returns-in_default
+returns-in_default c =
     let r = c.args.record.now in
-    let e = unread c.args.way r (3 + get_or r 0 0 - 3) (omega arith) _ c.in-default.ensures.answers in
+    let e = unread c.args.way r (3 + get_or r 0 0 - 3) (omega arith) _ c.in_default.ensures.answers in
     record { answers = sym (ap (λ x. strike_by (Some x) c.args.start c.args.mask) e); leaves = refl; neat = λ h. h; flips = refl }
 
 pub returns-then-mask-eq0 : goal.returns-then-mask-eq0
@@ -41,7 +41,7 @@ returns-then-strike c =
     let p = parts_of c.in-Ok.field-0 in
     let a = c.in-Ok.ensures in
     let f = is_read w r m me p a.answers in
-    let z = sized w p (take m (drop 3 r)) (a.writes-back p refl) in
+    let z = sized w p (take m (drop 3 r)) (a.writes_back p refl) in
     let lo : 0 < c.args.mask = omega (arith, c.if-mask-eq0.false) in
     let ys = c.strike.new.octets in
     let l : length ys ≡ m = omega (arith, c.strike.auto.octets, length-take m (drop 3 r), length-drop 3 r, c.told-record, c.if-n-gt68.false) in
@@ -63,7 +63,7 @@ returns-else-strike c =
     let p = parts_of c.in-Ok.field-0 in
     let a = c.in-Ok.ensures in
     let f = is_read w r m me p a.answers in
-    let z = sized w p (take m (drop 3 r)) (a.writes-back p refl) in
+    let z = sized w p (take m (drop 3 r)) (a.writes_back p refl) in
     let lo : 0 < c.args.mask = omega (arith, c.if-mask-eq0.false) in
     let ys = c.strike.new.octets in
     let no = sym c.if-strike.ensures.answers in

@@ -7,7 +7,7 @@ pub returns-in-Ok : goal.returns-in-Ok
 returns-in-Ok c =
     let a = c.in-Ok.ensures in
     pack_ok c.args.way (parts c.args.kind c.args.ns c.args.nr c.args.b c.args.info.now) (replicate 68 0) c.write.new.out c.in-Ok.n
-    a.answers a.leaves a.reads-back (zeros 68)
+    a.answers a.leaves a.reads_back (zeros 68)
 
 pub returns-in-Err : goal.returns-in-Err
 returns-in-Err c =

@@ -7,14 +7,14 @@ use Rattle.lines.proofs.octets.packed.unpack.Goals as goal
 pub returns-then-n-gt68 : goal.returns-then-n-gt68
 returns-then-n-gt68 c = too_long c.args.way c.args.record.now c.told-record c.if-n-gt68.true
 
-pub returns-in-default : goal.returns-in-default
-returns-in-default c = unread c.args.way c.args.record.now (3 + get_or c.args.record.now 0 0 - 3) (omega arith) _ c.in-default.ensures.answers
+pub returns-in_default : goal.returns-in_default
+returns-in_default c = unread c.args.way c.args.record.now (3 + get_or c.args.record.now 0 0 - 3) (omega arith) _ c.in_default.ensures.answers
 
 pub returns : goal.returns
 returns c =
     let r = c.args.record.now in
     let p = parts_of c.in-Ok.frame in
     let a = c.in-Ok.ensures in
-    let z = sized c.args.way p _ (a.writes-back p refl) in
+    let z = sized c.args.way p _ (a.writes_back p refl) in
     is_read c.args.way r (3 + get_or r 0 0 - 3) (omega arith) p a.answers
     ∙ ap (entry_told (age_in r)) (sym (c.own.ensures z.short))

@@ -6,7 +6,7 @@ use Rattle.lines.proofs.ring.Ring.get.Goals as goal
 pub returns-then-i-t : goal.returns-then-i-t
 returns-then-i-t g c =
     let t = c.bounds-t.ensures in
-    held_got _ _ _ _ (record { fits = t.fits; starts = t.starts; holds = t.holds }) c.args.i _ _ c.if-i-t.true c.slot-of-p.ensures.is c.pick.ensures
+    held_got _ _ _ _ (record { fits = t.fits; starts = t.starts; holds = t.holds }) c.args.i _ _ c.if-i-t.true c.slot_of-p.ensures.is c.pick.ensures
     ∙ sym (ap (λ es. at es c.args.i) t.held)
 
 pub returns-else-i-t : goal.returns-else-i-t

@@ -11,12 +11,12 @@ returns-then-t-gt0 g c =
     let t = c.bounds-t.ensures in
     let w : Within _ _ _ _ = record { fits = t.fits; starts = t.starts; holds = t.holds } in
     record {
-      gives = held_got _ _ _ _ w 0 _ _ c.if-t-gt0.true c.slot-of-p.ensures.is (get_or_default c.args.self.now.slots.now c.slot-of-p.result _ _ (omega (arith, c.slot-of-p.ensures.within, t.fits))) ∙ sym (ap (λ es. at es 0) t.held);
-      holds = held_pop _ _ _ _ w _ _ c.if-t-gt0.true c.slot-of-p.ensures.is ∙ sym (ap (λ es. drop 1 es) t.held);
+      gives = held_got _ _ _ _ w 0 _ _ c.if-t-gt0.true c.slot_of-p.ensures.is (get_or_default c.args.self.now.slots.now c.slot_of-p.result _ _ (omega (arith, c.slot_of-p.ensures.within, t.fits))) ∙ sym (ap (λ es. at es 0) t.held);
+      holds = held_pop _ _ _ _ w _ _ c.if-t-gt0.true c.slot_of-p.ensures.is ∙ sym (ap (λ es. drop 1 es) t.held);
       keeps = record {
         slots = size_kept _ _ _ _ _ t.fits t.size;
-        rest = drop-set-lt _ _ _ _ c.slot-of-p.ensures.within ∙ sym t.rest;
-        blanks = λ h. all_same _ _ _ (free_pop _ _ _ _ w _ _ c.if-t-gt0.true c.slot-of-p.ensures.is) (All-push _ _ _ (all_same _ _ _ (sym t.free) h) c.blank-blank.ensures);
+        rest = drop-set-lt _ _ _ _ c.slot_of-p.ensures.within ∙ sym t.rest;
+        blanks = λ h. all_same _ _ _ (free_pop _ _ _ _ w _ _ c.if-t-gt0.true c.slot_of-p.ensures.is) (All-push _ _ _ (all_same _ _ _ (sym t.free) h) c.blank-blank.ensures);
       };
     }
 

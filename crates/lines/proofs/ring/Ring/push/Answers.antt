@@ -13,11 +13,11 @@ returns-then-t g c =
     let n = ap length t.held ∙ held_length _ _ _ _ w in
     record {
       fits = sym (lt-ltb _ _ (omega (arith, n, t.size, c.if-t.true)));
-      holds = held_push _ _ _ _ w _ c.args.e c.if-t.true c.slot-of-p.ensures.is ∙ sym (ap (λ es. es ++ c.args.e ∷ []) t.held);
+      holds = held_push _ _ _ _ w _ c.args.e c.if-t.true c.slot_of-p.ensures.is ∙ sym (ap (λ es. es ++ c.args.e ∷ []) t.held);
       keeps = record {
         slots = size_kept _ _ _ _ _ t.fits t.size;
-        rest = drop-set-lt _ _ _ _ c.slot-of-p.ensures.within ∙ sym t.rest;
-        blanks = λ h. all_same _ _ _ (free_push _ _ _ _ w _ c.args.e c.if-t.true c.slot-of-p.ensures.is) (All-drop _ 1 _ (all_same _ _ _ (sym t.free) h));
+        rest = drop-set-lt _ _ _ _ c.slot_of-p.ensures.within ∙ sym t.rest;
+        blanks = λ h. all_same _ _ _ (free_push _ _ _ _ w _ c.args.e c.if-t.true c.slot_of-p.ensures.is) (All-drop _ 1 _ (all_same _ _ _ (sym t.free) h));
       };
     }
 

@@ -9,11 +9,11 @@ returns-then-i-b g c =
     let t = c.bounds-b.ensures in
     let w : Within _ _ _ _ = record { fits = t.fits; starts = t.starts; holds = t.holds } in
     record {
-      holds = held_put _ _ _ _ w c.args.i _ c.args.new c.if-i-b.true c.slot-of-p.ensures.is ∙ sym (ap (λ es. set es c.args.i c.args.new) t.held);
+      holds = held_put _ _ _ _ w c.args.i _ c.args.new c.if-i-b.true c.slot_of-p.ensures.is ∙ sym (ap (λ es. set es c.args.i c.args.new) t.held);
       keeps = record {
         slots = size_kept _ _ _ _ _ t.fits t.size;
-        rest = drop-set-lt _ _ _ _ c.slot-of-p.ensures.within ∙ sym t.rest;
-        blanks = all_same _ _ _ (free_put _ _ _ _ w c.args.i _ c.args.new c.if-i-b.true c.slot-of-p.ensures.is ∙ sym t.free);
+        rest = drop-set-lt _ _ _ _ c.slot_of-p.ensures.within ∙ sym t.rest;
+        blanks = all_same _ _ _ (free_put _ _ _ _ w c.args.i _ c.args.new c.if-i-b.true c.slot_of-p.ensures.is ∙ sym t.free);
       };
     }
 

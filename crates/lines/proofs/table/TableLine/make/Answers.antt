@@ -5,8 +5,8 @@ use Rattle.lines.specs.Stored.{lists_by}
 use Rattle.lines.proofs.Stores.{short_life, made_ok, made_err}
 use Rattle.lines.proofs.table.TableLine.make.Goals as goal
 
-pub overflow-cast-result : goal.overflow-cast-result
-overflow-cast-result c = let h = short_life c.args.k c.args.d _ _ _ c.in-Ok.ensures in omega arith
+pub overflow_cast-result : goal.overflow_cast-result
+overflow_cast-result c = let h = short_life c.args.k c.args.d _ _ _ c.in-Ok.ensures in omega arith
 
 pub returns-in-Ok : goal.returns-in-Ok
 returns-in-Ok c =
@@ -16,8 +16,8 @@ returns-in-Ok c =
     record {
       means = ap₂ (λ xs ys. lists_by (size c.make-in-Ok.result) (record { one = map entry_of xs; two = map entry_of ys; capacity = size c.make.result; lifetime = c.args.d })) a.holds b.holds ∙ m.lists;
       tidy = (a.blank, b.blank);
-      rest-one = a.rest ∙ ap (λ k. drop k c.args.one.now) m.one;
-      rest-two = b.rest ∙ ap (λ k. drop k c.args.two.now) m.two;
+      rest_one = a.rest ∙ ap (λ k. drop k c.args.one.now) m.one;
+      rest_two = b.rest ∙ ap (λ k. drop k c.args.two.now) m.two;
     }
 
 pub returns-in-Err : goal.returns-in-Err
@@ -28,6 +28,6 @@ returns-in-Err c =
     record {
       means = ap₂ (λ xs ys. lists_by (size c.make-in-Err-2.result) (record { one = map entry_of xs; two = map entry_of ys; capacity = size c.make-in-Err.result; lifetime = 1 })) a.holds b.holds ∙ m.lists;
       tidy = (a.blank, b.blank);
-      rest-one = a.rest ∙ ap (λ k. drop k c.args.one.now) m.one;
-      rest-two = b.rest ∙ ap (λ k. drop k c.args.two.now) m.two;
+      rest_one = a.rest ∙ ap (λ k. drop k c.args.one.now) m.one;
+      rest_two = b.rest ∙ ap (λ k. drop k c.args.two.now) m.two;
     }

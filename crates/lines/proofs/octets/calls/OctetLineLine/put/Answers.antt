@@ -10,7 +10,7 @@ returns-then-push c =
     let w = c.args.way in
     let l = octet_meaning c.args.self.now in
     let p = parts c.args.kind c.args.ns c.args.nr c.args.b c.args.info.now in
-    let k = c.in-ok-new.ensures in
+    let k = c.in_ok-new.ensures in
     let t = c.if-push.ensures in
     record {
       answers = put_answered l w p true k.0 t.fits;
@@ -24,7 +24,7 @@ returns-else-push c =
     let w = c.args.way in
     let l = octet_meaning c.args.self.now in
     let p = parts c.args.kind c.args.ns c.args.nr c.args.b c.args.info.now in
-    let k = c.in-ok-new.ensures in
+    let k = c.in_ok-new.ensures in
     let t = c.if-push.ensures in
     record {
       answers = put_answered l w p false k.0 t.fits;

@@ -12,7 +12,7 @@ returns c =
     let l = octet_meaning c.args.self.now in
     let e = packed_entry w c.in-Some.target in
     let s = sym c.in-Some.ensures.gives in
-    let h = c.in-ok-hit.ensures in
+    let h = c.in_ok-hit.ensures in
     record {
       answers = strike_granted l w c.args.place c.args.start c.args.mask e s h.answers;
       leaves = c.replace.ensures.leaves ∙ ap (λ x. with_way w (set (on w l) c.args.place x) l) h.leaves
