@@ -1,5 +1,6 @@
 // The two stations of the link: the primary and the secondary, each over any line.
 #![tactic(auto)]
+
 mod answer;
 mod mode;
 mod primary;

@@ -4,19 +4,17 @@ use Rattle.stations.specs.Blocks.{in_window}
 use Rattle.stations.proofs.Numbers.{one_more}
 use Rattle.stations.proofs.station.Station.accept.Goals as goal
 
-pub invariant-of-self : goal.invariant-of-self
-invariant-of-self c =
+pub invariant_of-self : goal.invariant_of-self
+invariant_of-self c =
     let s = c.args.self.now in
     let few : (s.vs + (8 - s.va)) % 8 < 7 = omega (arith, c.outstanding.ensures, c.if-outstanding-ge7.false) in
     let room : length (in_window s.window) < 7 = omega (arith, s.outstanding, few) in
     let fitted : c.push-fitted.result ≡ true =
-    c.push-fitted.ensures.answers ∙ and_from _ _ (lt-ltb _ _ room) (le-leb _ _ c.if-octets-gt64.false) in (
-      omega arith,
-      (
-        s.va_small,
-        (
-          s.vr_small,
-          (one_more (in_window s.window) _ c.args.octets.now s.vs s.va (c.push-fitted.ensures.leaves ∙ cond-true _ _ _ fitted) s.outstanding s.vs_small s.va_small few, tt),
-        ),
-      ),
-    )
+    c.push-fitted.ensures.answers ∙ and_from _ _ (lt-ltb _ _ room) (le-leb _ _ c.if-octets-gt64.false) in
+    record {
+      vs_small = omega arith;
+      va_small = s.va_small;
+      vr_small = s.vr_small;
+      outstanding =
+          one_more (in_window s.window) _ c.args.octets.now s.vs s.va (c.push-fitted.ensures.leaves ∙ cond-true _ _ _ fitted) s.outstanding s.vs_small s.va_small few;
+    }

@@ -9,12 +9,12 @@ use Rattle.stations.proofs.station.Station.put_window.Goals as goal
 abbrev counting : ℕ → ℕ → Counts
 counting put n = record { put = put; lost = n - put }
 
-pub overflow-add-put : goal.overflow-add-put
-overflow-add-put g c =
+pub overflow_add-put : goal.overflow_add-put
+overflow_add-put g c =
     let l = g.L.Line.meaning c.loop-i.line in
     let x = station_of c.args.self.now in
     let one = put_at_length l.capacity x c.loop-i.ns (at x.window c.loop-i.i) (on c.args.way l) in
-    let few : c.put-at-put.result ≤ 1 = omega (arith, one, c.put-at-put.ensures.answers) in
+    let few : c.put_at-put.result ≤ 1 = omega (arith, one, c.put_at-put.ensures.answers) in
     let least : c.loop-i.put ≤ c.loop-i.i = c.loop-i.invariant.3 in
     search rules
 
@@ -24,10 +24,10 @@ loop-i-preserved g c =
     let m = g.L.Line.meaning in
     let l = m c.args.line.now in
     let k = m c.loop-i.line in
-    let n = m c.put-at-put.new.line in
+    let n = m c.put_at-put.new.line in
     let x = station_of c.args.self.now in
     let es = put_at k.capacity x c.loop-i.ns (at x.window c.loop-i.i) (on w k) in
-    let o = only_on w l k n es c.loop-i.invariant.0 c.put-at-put.ensures.leaves in
+    let o = only_on w l k n es c.loop-i.invariant.0 c.put_at-put.ensures.leaves in
     let one = put_at_length k.capacity x c.loop-i.ns (at x.window c.loop-i.i) (on w k) in
     let h : c.loop-i.i < length x.window = omega (arith, c.len-n.ensures) in
     let grown = ap length o.1 in (
@@ -35,11 +35,11 @@ loop-i-preserved g c =
       again_more l.capacity x x.window c.loop-i.ns c.loop-i.i (on w k) (on w n) h
           (o.1 ∙ ap (λ q. put_at q x c.loop-i.ns (at x.window c.loop-i.i) (on w k)) o.2)
           ∙ c.loop-i.invariant.1,
-      omega (arith, one, grown, c.put-at-put.ensures.answers, c.loop-i.invariant.2),
-      omega (arith, one, c.put-at-put.ensures.answers, c.loop-i.invariant.3),
+      omega (arith, one, grown, c.put_at-put.ensures.answers, c.loop-i.invariant.2),
+      omega (arith, one, c.put_at-put.ensures.answers, c.loop-i.invariant.3),
       omega arith,
-      c.put-at-put.ensures.keeps ∙ c.loop-i.invariant.5,
-      λ t. c.put-at-put.ensures.tidy (c.loop-i.invariant.6 t),
+      c.put_at-put.ensures.keeps ∙ c.loop-i.invariant.5,
+      λ t. c.put_at-put.ensures.tidy (c.loop-i.invariant.6 t),
     )
 
 pub returns : goal.returns
