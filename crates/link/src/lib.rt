@@ -1,5 +1,6 @@
 // The link between two modules: two stations over one line, and what it promises over every history.
 #![tactic(auto)]
+
 mod call;
 mod end;
 mod fetched;
