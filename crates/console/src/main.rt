@@ -1,5 +1,6 @@
 // A console: reads commands, one a line, and writes one line for each.
 #![tactic(auto)]
+
 mod answer;
 mod arguments;
 mod command;
@@ -21,7 +22,7 @@ use std::io;
 
 // Answers every line of standard input, and tells whether all were understood.
 fn run(rt: &HostRuntime) -> io::Result<bool> {
-    let mut session = Session::new(rt);
+    let mut session = Session::new(rt)?;
     let mut wanted = serve_nothing(&mut session)?;
     for _ in 0..u64::MAX {
         let Some(setup) = wanted else {

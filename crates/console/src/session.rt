@@ -26,14 +26,14 @@ pub enum Turn {
 }
 
 impl Session {
-    pub fn new(rt: &HostRuntime) -> Session {
-        Session {
+    pub fn new(rt: &HostRuntime) -> io::Result<Session> {
+        Ok(Session {
             heap: rt.alloc(),
-            input: BufReader::new(rt.stdin()),
+            input: BufReader::new(rt.alloc(), rt.stdin())?,
             output: rt.stdout(),
             line: Vec::new(rt.alloc()),
             understood: true,
-        }
+        })
     }
 
     pub fn heap(&self) -> Global {

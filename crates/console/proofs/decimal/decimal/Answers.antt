@@ -29,6 +29,6 @@ loop-octet-preserved c = one_more c.args.most c.args.word.now c.loop-octet.octet
 pub returns : goal.returns
 returns c =
     record {
-      answers = sym (all_read c.args.most c.args.word.now c.loop-octet.octet-index c.loop-octet.value (omega arith) (omega (arith, false-eqb _ 0 c.if-is-empty.ensures)) c.loop-octet.invariant);
+      answers = sym (all_read c.args.most c.args.word.now c.loop-octet.octet-index c.loop-octet.value (omega arith) (omega (arith, false-eqb _ 0 c.if-is_empty.ensures)) c.loop-octet.invariant);
       bounds = c.loop-octet.invariant.small;
     }

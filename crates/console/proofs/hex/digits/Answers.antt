@@ -9,8 +9,8 @@ loop-octet-preserved c =
     let text = string_bytes c.loop-octet.text in
     let high = string_bytes c.push.new.self in
     let both = string_bytes c.push-in-loop-octet.new.self in
-    let first = c.in-ok-push.ensures in
-    let second = c.in-ok-push-2.ensures in
+    let first = c.in_ok-push.ensures in
+    let second = c.in_ok-push-2.ensures in
     one_more c.args.octets.now c.loop-octet.octet-index text high both (omega arith)
     (pushed text high c.digit.result (octet / 16) (omega arith) c.digit.ensures first.bytes first.ascii)
     (pushed high both c.digit-in-loop-octet.result (octet % 16) (omega arith) c.digit-in-loop-octet.ensures second.bytes second.ascii)

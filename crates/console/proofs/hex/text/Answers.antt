@@ -4,23 +4,23 @@ use Rattle.console.specs.Hex.{octets_answer, digits_of, text_of}
 use Rattle.console.proofs.Texts.{text_back, text_none, text_some}
 use Rattle.console.proofs.hex.text.Goals as goal
 
-pub returns-then-is-empty : goal.returns-then-is-empty
-returns-then-is-empty c =
+pub returns-then-is_empty : goal.returns-then-is_empty
+returns-then-is_empty c =
     let os = c.args.octets.now in
-    let none : length c.args.octets.now ≡ 0 = true-eqb _ 0 c.if-is-empty.ensures in
+    let none : length c.args.octets.now ≡ 0 = true-eqb _ 0 c.if-is_empty.ensures in
     let e = text_none os none in
     record {
-      shows = IfOk-weaker c.from-str.result _ _ (λ t h. h ∙ e) c.from-str.ensures.ok;
-      reads-back =
-          IfOk-weaker c.from-str.result _ _ (λ t h. ap octets_answer (h ∙ e) ∙ text_back os (λ k. search rules)) c.from-str.ensures.ok;
+      shows = IfOk-weaker c.from_str.result _ _ (λ t h. h ∙ e) c.from_str.ensures.ok;
+      reads_back =
+          IfOk-weaker c.from_str.result _ _ (λ t h. ap octets_answer (h ∙ e) ∙ text_back os (λ k. search rules)) c.from_str.ensures.ok;
     }
 
-pub returns-else-is-empty : goal.returns-else-is-empty
-returns-else-is-empty c =
+pub returns-else-is_empty : goal.returns-else-is_empty
+returns-else-is_empty c =
     let os = c.args.octets.now in
-    let some : 0 < length c.args.octets.now = omega (arith, false-eqb _ 0 c.if-is-empty.ensures) in
+    let some : 0 < length c.args.octets.now = omega (arith, false-eqb _ 0 c.if-is_empty.ensures) in
     let e = text_some os some in
     record {
       shows = IfOk-weaker c.digits.result _ _ (λ t h. h ∙ e) c.digits.ensures;
-      reads-back = IfOk-weaker c.digits.result _ _ (λ t h. ap octets_answer (h ∙ e) ∙ text_back os (λ k. search rules)) c.digits.ensures;
+      reads_back = IfOk-weaker c.digits.result _ _ (λ t h. ap octets_answer (h ∙ e) ∙ text_back os (λ k. search rules)) c.digits.ensures;
     }
