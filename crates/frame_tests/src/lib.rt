@@ -1,5 +1,6 @@
 // Tests of frames on octets that were computed outside, and at the edges of every refusal.
 #![tactic(auto)]
+
 #[cfg(test)]
 mod tests {
     use frames::{Frame, FrameRefusal, Kind, Way, read, strike, write};

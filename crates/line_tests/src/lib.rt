@@ -1,5 +1,6 @@
 // Tests of both lines by the same functions, and of what their memory holds.
 #![tactic(auto)]
+
 #[cfg(test)]
 mod tests {
     use frames::{FrameBuf, FrameRefusal, Kind, Way};

@@ -1,5 +1,6 @@
 // Tests of the link over a table line with K = 8, D = 2 and T = 5, and of the stations under it.
 #![tactic(auto)]
+
 #[cfg(test)]
 mod answers;
 #[cfg(test)]
