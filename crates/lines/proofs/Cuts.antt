@@ -1,6 +1,6 @@
 -- Octets cut into records of 72: what the moves of a ring do to its records.
 use Rattle.std.proofs.Common.{◌≡◌, ℕ, zero, suc, ◌+◌, ◌*◌, ◌/◌, ◌%◌, ◌<◌, ◌≤◌, Bool, true, false, cond, ltb, leb, List, [], ◌∷◌, ◌++◌, length, take, drop, set, Some, None, sym, refl, ap, ◌∙◌, subst, ap₂, ⊎_elim, arith, take-add}
-use Rattle.std.specs.List.{AllByRecursion as All}
+use Rattle.std.specs.List.{AllByRecursion}
 use Rattle.std.proofs.lemmas.List.{length-drop, length-take, length-append, length-take-le, take_all, append_assoc, drop-drop, take-append-le, drop-append-le, nil_from_length, take_at, drop_at, set_past}
 use Rattle.std.proofs.ByRecursion.{All-push}
 use Rattle.std.proofs.lemmas.Bool.{cases_lt, cond-true, lt-ltb, le-ltb, lt-leb, le-leb}
@@ -135,11 +135,11 @@ pub shed_even : (es fs : List ℕ) → 72 ≤ length es → fs ≡ drop 72 es �
 shed_even es fs h e = ap (λ y. length y % 72) e ∙ simp length-drop (omega arith)
 
 -- ---- what is zero stays zero
-pub neat_push : (es fs : List (List ℕ)) (r : List ℕ) (t : Bool) → fs ≡ cond t (es ++ r ∷ []) es → All Neat es → Neat r → All Neat fs
-neat_push es fs r true e h n = subst (λ xs. All Neat xs) (sym e) (All-push Neat es r h n)
-neat_push es fs r false e h n = subst (λ xs. All Neat xs) (sym e) h
+pub neat_push : (es fs : List (List ℕ)) (r : List ℕ) (t : Bool) → fs ≡ cond t (es ++ r ∷ []) es → AllByRecursion Neat es → Neat r → AllByRecursion Neat fs
+neat_push es fs r true e h n = subst (λ xs. AllByRecursion Neat xs) (sym e) (All-push Neat es r h n)
+neat_push es fs r false e h n = subst (λ xs. AllByRecursion Neat xs) (sym e) h
 
-pub neat_at : (es : List (List ℕ)) (i : ℕ) → All Neat es → NeatIf (at es i)
+pub neat_at : (es : List (List ℕ)) (i : ℕ) → AllByRecursion Neat es → NeatIf (at es i)
 neat_at [] i h = tt
 neat_at (e ∷ es) zero h = h.0
 neat_at (e ∷ es) (suc i) h = neat_at es i h.1

@@ -1,7 +1,7 @@
 -- The slots of a ring read round: their length, a read, a write, one slot on, and slots all blank.
 use Rattle.std.proofs.Common.{◌≡◌, ℕ, ◌+◌, ◌-◌, ◌<◌, ◌≤◌, min, List, [], ◌∷◌, ◌++◌, length, get_or, take, drop, set, sym, refl, ap, ◌∙◌, subst, ap₂, ⊎_elim, arith}
 use lib.Seq.{take-set-lt}
-use Rattle.std.specs.List.{AllByRecursion as All}
+use Rattle.std.specs.List.{AllByRecursion}
 use Rattle.std.proofs.lemmas.List.{length-set, length-drop, length-take, length-append, length-take-le, get_or-set_same, get_or-set_other, get_or_append_left, get_or-append_right, get_or-drop, get_or-take, take_all, drop_all, take-set-le, drop-set-lt, drop-set-add, set-append_left, set-append_right, append-nil, append_assoc, take_more, drop_more}
 use Rattle.std.proofs.ByRecursion.{All-from_get_or}
 use Rattle.std.proofs.lemmas.Bool.Decides.{nat_tests}
@@ -110,8 +110,8 @@ module _ {E : Type 0} where
   pub drop_within : (zs : List E) (n k cap : ℕ) → length zs ≡ cap → k ≡ min n cap → drop n zs ≡ drop k zs
   drop_within zs n k cap l e = rest_within zs n ∙ ap (λ m. drop m zs) (let q : min n (length zs) ≡ k = omega arith in q)
 
-  pub all_same : (P : E → Type 0) (xs ys : List E) → ys ≡ xs → All P xs → All P ys
-  all_same P xs ys e h = subst (λ z. All P z) (sym e) h
+  pub all_same : (P : E → Type 0) (xs ys : List E) → ys ≡ xs → AllByRecursion P xs → AllByRecursion P ys
+  all_same P xs ys e h = subst (λ z. AllByRecursion P z) (sym e) h
 
   -- one more slot made blank
   pub blank_more : (s : List E) (i : ℕ) (b : E) → i < length s → ((k : ℕ) → k < i → get_or s k b ≡ b) → (k : ℕ) → k < i + 1 → get_or (set s i b) k b ≡ b
@@ -122,7 +122,7 @@ module _ {E : Type 0} where
       (cases_eq k i)
 
   -- a memory whose slots are all blank
-  pub lane_blank : (s : List E) (cap : ℕ) (b d : E) → ((k : ℕ) → k < cap → get_or s k b ≡ b) → b ≡ d → All (λ x. x ≡ d) (lane s cap 0)
+  pub lane_blank : (s : List E) (cap : ℕ) (b d : E) → ((k : ℕ) → k < cap → get_or s k b ≡ b) → b ≡ d → AllByRecursion (λ x. x ≡ d) (lane s cap 0)
   unfolding lane
   lane_blank s cap b d h e =
       all_same (λ x. x ≡ d) (take cap s) (take cap s ++ []) (append-nil (take cap s))

@@ -1,6 +1,6 @@
 -- The octet line by its two rings: its bounds, its meaning once one ring has changed, its making, one record's turn.
 use Rattle.std.proofs.Common.{◌≡◌, ℕ, zero, suc, ◌+◌, ◌*◌, ◌/◌, ◌%◌, ◌<◌, ◌≤◌, Bool, true, cond, eqb, ltb, leb, List, [], ◌∷◌, ◌++◌, map, length, get_or, drop, set, Some, None, Option, sym, refl, ap, ◌∙◌, subst, ap₂, arith}
-use Rattle.std.specs.List.{AllByRecursion as All}
+use Rattle.std.specs.List.{AllByRecursion}
 use Rattle.std.proofs.lemmas.List.{length-map}
 use Rattle.std.proofs.lemmas.Bool.Decides.{nat_tests}
 use Rattle.frames.specs.declared.way.Way.{Way}
@@ -86,7 +86,7 @@ module _ (r : Ring ℕ) (k len : ℕ) (e : held r ≡ []) (q : size r ≡ cond (
       q ∙ b ∙ ap (λ y. 72 * y) (sym made_places ∙ p)
 
   pub made_zeroed : Blanked 0 r → Zeroed r
-  made_zeroed b = record { free = b; held = subst (λ rs. All Neat rs) (sym (ap cut e ∙ no_records)) tt }
+  made_zeroed b = record { free = b; held = subst (λ rs. AllByRecursion Neat rs) (sym (ap cut e ∙ no_records)) tt }
 
 -- ---- one record's turn
 module _ (d : ℕ) (es ms : List (List ℕ)) (r : List ℕ) (a : ℕ) (n : a ≡ age_in r) (g : Some r ≡ at es 0) (m : ms ≡ drop 1 es) (w : Way) where

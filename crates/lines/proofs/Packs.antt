@@ -1,6 +1,6 @@
 -- A packed record: what packing writes, what reading it back finds, its age, and its frame once bits were turned over.
 use Rattle.std.proofs.Common.{◌≡◌, ℕ, zero, suc, ◌+◌, ◌*◌, ◌/◌, ◌%◌, ◌<◌, ◌≤◌, Bool, true, false, not, ◌&&◌, ltb, leb, List, [], ◌∷◌, ◌++◌, length, get_or, take, drop, set, replicate, is_ok, Some, Ok, Err, Result, sym, refl, ap, ◌∙◌, subst, ap₂, arith}
-use Rattle.std.specs.List.{AllByRecursion as All}
+use Rattle.std.specs.List.{AllByRecursion}
 use Rattle.std.proofs.lemmas.List.{length-drop, length-take, length-append, append_assoc, take-append-le, take_at, drop_at}
 use Rattle.std.proofs.ByRecursion.{All-push, All-drop}
 use Rattle.std.proofs.lemmas.Bool.{lt-ltb, le-ltb, ne_eqb, ltb-false}
@@ -118,7 +118,7 @@ module _ (w : Way) (m : ℕ) where
   hit_neat (i ∷ []) ys l e n h = absurd (omega arith)
   hit_neat (i ∷ j ∷ []) ys l e n h = absurd (omega arith)
   hit_neat (i ∷ j ∷ k ∷ rest) ys l e n h =
-      subst (λ os. All (λ o. o ≡ 0) os) (ap (λ c. drop c rest) (sym e) ∙ sym (drop_at ys (drop m rest) i (omega arith))) h
+      subst (λ os. AllByRecursion (λ o. o ≡ 0) os) (ap (λ c. drop c rest) (sym e) ∙ sym (drop_at ys (drop m rest) i (omega arith))) h
 
   -- put back as it was
   pub hit_none : (r ys : List ℕ) → ys ≡ take m (drop 3 r) → put_mid 3 m r ys ≡ r
@@ -147,12 +147,12 @@ written (Ok os) zs n h = go (ltb (length zs) (length os)) refl h
           leaves = ap (λ t. laid (refuse t NoSpace (Ok os)) zs) e;
         }
 
-pub zeros : (n : ℕ) → All (λ (o : ℕ). o ≡ 0) (replicate n 0)
+pub zeros : (n : ℕ) → AllByRecursion (λ (o : ℕ). o ≡ 0) (replicate n 0)
 zeros zero = tt
 zeros (suc n) = (refl, zeros n)
 
 module _ (w : Way) (p : Parts) (zs out : List ℕ) where
-  pub pack_ok : (n : ℕ) → Ok n ≡ write_answer w p (length zs) → out ≡ write_leaves w p zs → ReadsBack w p (Ok n) out → All (λ o. o ≡ 0) zs →
+  pub pack_ok : (n : ℕ) → Ok n ≡ write_answer w p (length zs) → out ≡ write_leaves w p zs → ReadsBack w p (Ok n) out → AllByRecursion (λ o. o ≡ 0) zs →
       Packs w p (Ok (n ∷ 0 ∷ 0 ∷ (out ++ 0 ∷ [])))
   unfolding packed_entry
   pack_ok n a o b h =
@@ -165,7 +165,7 @@ module _ (w : Way) (p : Parts) (zs out : List ℕ) where
       ∙ drop_at x.os (drop (length x.os) zs ++ 0 ∷ []) n (sym x.count) in (
         ap is_ok c.1,
         ap (λ y. entry_read 0 (read_answer w y)) (take-append-le n out (0 ∷ []) l) ∙ ap (entry_read 0) (b n refl),
-        subst (λ y. All (λ o. o ≡ 0) y) (sym tail) (All-push (λ o. o ≡ 0) (drop (length x.os) zs) 0 (All-drop (λ o. o ≡ 0) (length x.os) zs h) refl),
+        subst (λ y. AllByRecursion (λ o. o ≡ 0) y) (sym tail) (All-push (λ o. o ≡ 0) (drop (length x.os) zs) 0 (All-drop (λ o. o ≡ 0) (length x.os) zs h) refl),
       )
 
 pub pack_err : (w : Way) (p : Parts) (e : FrameRefusal) (room : ℕ) → 68 ≤ room → Err e ≡ write_answer w p room → admit_answer w p ≡ Err e

@@ -1,6 +1,6 @@
 -- What an octet line means, and what its memory holds besides.
 use Rattle.std.specs.Prelude.{◌≡◌, ℕ, zero, suc, ◌/◌, ◌%◌, Bool, cond, List, [], ◌∷◌, map, length, take, drop, Some, None, Option, ◌==◌, slice_index_or, slice_set}
-use Rattle.std.specs.List.{AllByRecursion as All}
+use Rattle.std.specs.List.{AllByRecursion}
 use Rattle.frames.specs.declared.way.Way.{Way}
 use Rattle.frames.specs.declared.way.Way.TheVariants.{One, Two}
 use Rattle.lines.specs.declared.ring.Ring.{Ring}
@@ -30,7 +30,7 @@ places r = cond (length (held r) % 72 == 0) (size r / 72) 65
 -- slots that hold nothing are zero, and so are octets behind a frame in its record
 pub record Zeroed (r : Ring ℕ) : Type 0 where
   pub free : Blanked 0 r
-  pub held : All Neat (records r)
+  pub held : AllByRecursion Neat (records r)
 
 -- the same of a record that may be there
 abbrev pub NeatIf : Option (List ℕ) → Type 0

@@ -1,6 +1,6 @@
 -- A packed record: the frame's length, its age in two octets, low one first, the frame's octets, and zeros behind; 72 octets.
 use Rattle.std.specs.Prelude.{◌≡◌, ℕ, ◌+◌, ◌*◌, true, List, ◌++◌, take, drop, is_ok, Some, None, Ok, Err, Option, Result, slice_index}
-use Rattle.std.specs.List.{AllByRecursion as All}
+use Rattle.std.specs.List.{AllByRecursion}
 use Rattle.frames.specs.declared.way.Way.{Way}
 use Rattle.frames.specs.declared.refusal.FrameRefusal.{FrameRefusal}
 use Rattle.frames.specs.Parts.{Parts}
@@ -21,7 +21,7 @@ burst start mask r = take 3 r ++ (strike_leaves start mask (frame_in r) ++ drop 
 
 -- the octets behind the frame are zero
 abbrev pub Neat : List ℕ → Type 0
-Neat r = All (λ o. o ≡ 0) (drop (slice_index r 0) (drop 3 r))
+Neat r = AllByRecursion (λ o. o ≡ 0) (drop (slice_index r 0) (drop 3 r))
 
 -- the entry is the frame that its octets are read as; there is no mark for struck: octets that are not read are struck
 abbrev pub entry_read : ℕ → Result Parts FrameRefusal → Entry

@@ -1,6 +1,6 @@
 -- A ring: which slots it has, what it holds, and what every call keeps.
 use Rattle.std.specs.Prelude.{◌≡◌, ℕ, ◌+◌, ◌-◌, min, cond, List, ◌++◌, length, take, drop, nat_lt}
-use Rattle.std.specs.List.{AllByRecursion as All}
+use Rattle.std.specs.List.{AllByRecursion}
 use Rattle.lines.specs.declared.ring.Ring.{Ring}
 
 -- the slots of a memory, read round from slot `first`: which slots hold what is left free but for this
@@ -29,7 +29,7 @@ behind r = drop r.cap r.slots.now
 
 -- each slot that holds nothing is blank
 abbrev pub Blanked : {E : Type 0} → E → Ring E → Type 0
-Blanked b r = All (λ x. x ≡ b) (free r)
+Blanked b r = AllByRecursion (λ x. x ≡ b) (free r)
 
 -- what each call keeps: how many slots there are, the memory behind them, and that free slots are blank
 pub record Kept {E : Type 0} (b : E) (r s : Ring E) : Type 0 where

@@ -1,5 +1,5 @@
 use Rattle.std.proofs.Common.{◌<◌, ◌≤◌, length, Some, sym, refl, ap, ◌∙◌, subst, arith}
-use Rattle.std.specs.List.{AllByRecursion as All}
+use Rattle.std.specs.List.{AllByRecursion}
 use Rattle.std.proofs.ByRecursion.{All-drop}
 use Rattle.std.proofs.lemmas.Bool.{leb-true, leb-false}
 use Rattle.lines.specs.Octets.{cut, NeatIf}
@@ -20,7 +20,7 @@ returns-then-peek c =
       holds = rest;
       even = shed_even es _ h c.shed.ensures.holds;
       keeps = c.shed.ensures.keeps;
-      zeroed = λ z. record { free = c.shed.ensures.keeps.blanks z.free; held = subst (λ xs. All Neat xs) (sym rest) (All-drop Neat 1 (cut es) z.held) };
+      zeroed = λ z. record { free = c.shed.ensures.keeps.blanks z.free; held = subst (λ xs. AllByRecursion Neat xs) (sym rest) (All-drop Neat 1 (cut es) z.held) };
       neat = λ z. subst NeatIf (sym gives) (neat_at (cut es) 0 z.held);
     }
 

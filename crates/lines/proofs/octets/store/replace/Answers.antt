@@ -1,5 +1,5 @@
 use Rattle.std.proofs.Common.{◌≡◌, length, sym, refl, subst, arith}
-use Rattle.std.specs.List.{AllByRecursion as All}
+use Rattle.std.specs.List.{AllByRecursion}
 use Rattle.std.proofs.ByRecursion.{All-set}
 use Rattle.lines.specs.Octets.{cut}
 use Rattle.lines.specs.Packed.{Neat}
@@ -18,7 +18,7 @@ returns-then-place-len c =
       holds = p.0;
       even = p.1;
       keeps = k;
-      zeroed = λ z n. record { free = k.blanks z.free; held = subst (λ xs. All Neat xs) (sym p.0) (All-set Neat (cut es) c.args.place c.args.new.now n z.held) };
+      zeroed = λ z n. record { free = k.blanks z.free; held = subst (λ xs. AllByRecursion Neat xs) (sym p.0) (All-set Neat (cut es) c.args.place c.args.new.now n z.held) };
     }
 
 pub returns-else-place-len : goal.returns-else-place-len
