@@ -1,16 +1,13 @@
 -- Playing a list of calls, one by one.
-use Rattle.std.proofs.Common.{◌≡◌, ℕ, ◌+◌, ◌<◌, ◌≤◌, List, [], ◌∷◌, ◌++◌, map, length, get_or, drop, sym, refl, ap, ◌∙◌}
+use Rattle.std.proofs.Common.{◌≡◌, ℕ, ◌+◌, ◌<◌, ◌≤◌, List, ◌++◌, map, length, get_or, drop, sym, refl, ap, ◌∙◌}
 use Rattle.std.proofs.lemmas.List.{at_drop_more, at_drop_all}
 use Rattle.link.specs.declared.call.Call.{Call as Code}
 use Rattle.link.specs.State.{Model}
 use Rattle.link.specs.History.{Call, step, run}
 use Rattle.link.specs.Plays.{meant}
 use Rattle.link.specs.Promise.{Lasting}
+use Rattle.link.proofs.Histories.{run_append}
 use Rattle.link.proofs.Law.{law}
-
-pub run_append : (l : Model) (before after : List Call) → run l (before ++ after) ≡ run (run l before) after
-run_append l [] after = refl
-run_append l (c ∷ cs) after = run_append (step l c) cs after
 
 pub play_more : (l m : Model) (calls : List Code) (i : ℕ) (d : Code) → i < length calls → d ≡ get_or calls i d → m ≡ step l (meant d)
     → run m (map meant (drop (i + 1) calls)) ≡ run l (map meant (drop i calls))

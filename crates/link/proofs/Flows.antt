@@ -1,7 +1,8 @@
 -- What a way holds between two open ends: frames whose numbers and blocks fit what either end has done.
-use Rattle.std.proofs.Common.{◌≡◌, ℕ, ◌+◌, ◌%◌, ◌<◌, ◌≤◌, max, Bool, true, false, ltb, List, [], ◌∷◌, ◌++◌, length, get_or, drop, sym, refl, ap, ◌∙◌, arith}
+use Rattle.std.proofs.Common.{◌≡◌, ℕ, ◌+◌, ◌%◌, ◌<◌, ◌≤◌, max, Bool, true, false, ltb, List, [], ◌∷◌, ◌++◌, length, get_or, drop, sym, refl, ap, ◌∙◌, subst, arith}
 use Rattle.std.proofs.lemmas.List.{length_push, get_or_append_left, drop_more, length-drop}
-use Rattle.frames.specs.declared.kind.Kind.TheVariants.{I, Disc}
+use Rattle.frames.specs.declared.kind.Kind.{Kind}
+use Rattle.frames.specs.declared.kind.Kind.TheVariants.{I, Rr, Rnr, Disc}
 use Rattle.frames.specs.Parts.{parts}
 use Rattle.lines.specs.Entries.{Entry, struck, frame}
 use Rattle.stations.specs.Station.{Block, Station, status_by}
@@ -42,7 +43,7 @@ abbrev pub Flow : List Block → ℕ → ℕ → ℕ → List Entry → Type 0
 Flow blocks hi m lo es = Stream blocks hi false m lo es
 
 -- a list that is not empty from n on is longer than n
-within : {X : Type 0} (n : ℕ) (xs : List X) (z : X) (zs : List X) → z ∷ zs ≡ drop n xs → n < length xs
+pub within : {X : Type 0} (n : ℕ) (xs : List X) (z : X) (zs : List X) → z ∷ zs ≡ drop n xs → n < length xs
 within n xs z zs e = let l = ap length e in omega (arith, length-drop n xs, l)
 
 carries_less : {blocks : List Block} {ns m n : ℕ} {x : Block} (m' : ℕ) →
@@ -183,3 +184,24 @@ module _ {blocks : List Block} {hi : ℕ} where
       Stream blocks hi c m lo es → Marks d P false es → Stream blocks hi true m lo (put_by room es (plain Disc))
   flow_put_disc true f w = flow_disc f w
   flow_put_disc false f w = flow_free f w
+
+-- a flow whose first frame is a status frame
+no_status : (w : Bool) (k : Kind) → k ≡ status_by w → (k ≡ Rr → ⊥) → (k ≡ Rnr → ⊥) → ⊥
+no_status true k e f h = h e
+no_status false k e f h = f e
+
+pub status_front : {blocks : List Block} {hi : ℕ} {c : Bool} {m lo : ℕ} {fs : List Entry} (w : Bool) {a ns nr b : ℕ} {x : Block} {es : List Entry} →
+    Stream blocks hi c m lo fs → fs ≡ frame a (parts (status_by w) ns nr b x) ∷ es →
+    (v : ℕ) × Tells nr lo v × Stream blocks hi c m v es
+status_front w (done l h) e = absurd (let z : ◌≡◌ {A = ℕ} 0 1 = cc in omega arith)
+status_front w (skip f) e = absurd (let z : ◌≡◌ {A = ℕ} 0 1 = cc in omega arith)
+status_front w (info c t f) e =
+    let k : I ≡ status_by w = cc in
+    absurd (no_status w I k (λ q. let z : ◌≡◌ {A = ℕ} 0 1 = cc in omega arith) (λ q. let z : ◌≡◌ {A = ℕ} 0 1 = cc in omega arith))
+status_front {blocks} {hi} {c} {m} {lo} w {nr = nr} {es = es} (status {nr = nr'} {v = v} {es = es'} busy t f) e =
+    let n : nr' ≡ nr = cc in
+    let tail : es' ≡ es = cc in
+    (v, subst (λ k. Tells k lo v) n t, subst (Stream blocks hi c m v) tail f)
+status_front w (disc l h) e =
+    let k : Disc ≡ status_by w = cc in
+    absurd (no_status w Disc k (λ q. let z : ◌≡◌ {A = ℕ} 0 1 = cc in omega arith) (λ q. let z : ◌≡◌ {A = ℕ} 0 1 = cc in omega arith))

@@ -1,5 +1,5 @@
 -- The invariant holds after every list of calls on a sound link.
-use Rattle.std.proofs.Common.{◌≡◌, ◌+◌, ◌*◌, ◌≤◌, List, [], ◌∷◌, None, sym, refl, subst}
+use Rattle.std.proofs.Common.{◌≡◌, ◌+◌, ◌*◌, ◌≤◌, List, [], ◌∷◌, ◌++◌, None, sym, refl, ap, subst}
 use Rattle.link.specs.declared.end.End.TheVariants.{Primary, Secondary}
 use Rattle.link.specs.State.{Measures, State, Model}
 use Rattle.link.specs.Calls.{held_by}
@@ -27,10 +27,29 @@ keep_call g large (fetches Primary) x y h = keep_primary_fetches x y h.0 h.1
 keep_call g large (fetches Secondary) x y h = keep_secondary_fetches x y h.0 h.1
 keep_call g large (strikes w place start mask) x y h = keep_strikes g place start mask w h.0 h.1
 
+-- a link without a fault
+abbrev pub faultless : Measures → State → Model
+faultless g x = record { fault = None; measures = g; now = x }
+
+-- a list of calls goes on from where its front leads
+pub run_append : (l : Model) (before after : List Call) → run l (before ++ after) ≡ run (run l before) after
+run_append l [] after = refl
+run_append l (c ∷ cs) after = run_append (step l c) cs after
+
+pub account_append : (l : Model) (y : Account) (before after : List Call) →
+    account_of l y (before ++ after) ≡ account_of (run l before) (account_of l y before) after
+account_append l y [] after = refl
+account_append l y (c ∷ cs) after = account_append (step l c) (noted l c y) cs after
+
 -- calls keep a link's measures
 pub run_measures : (l : Model) (calls : List Call) → (run l calls).measures ≡ l.measures
 run_measures l [] = refl
 run_measures l (c ∷ cs) = run_measures (step l c) cs
+
+-- and bring no fault
+pub run_sound : (l : Model) → l.fault ≡ None → (calls : List Call) → run l calls ≡ faultless l.measures (run l calls).now
+run_sound l sound [] = ap (λ o. record { fault = o; measures = l.measures; now = l.now }) sound
+run_sound l sound (c ∷ cs) = run_sound (step l c) sound cs
 
 -- and a link without a fault takes each step
 pub keep_run : (l : Model) (y : Account) → 2 * l.measures.d + 1 ≤ l.measures.t → l.fault ≡ None →

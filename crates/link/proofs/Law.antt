@@ -58,17 +58,30 @@ module _ (ls : Lists) (t : ℕ) (sound : (made ls t).fault ≡ None) where
   tests = no_fault (timed ls.capacity ls.lifetime t) (no_entries ls.one ls.two) sound
 
   -- T is at least 2D + 1
-  large : 2 * ls.lifetime + 1 ≤ t
+  pub large : 2 * ls.lifetime + 1 ≤ t
   large =
       let enough = leb (2 * ls.lifetime + 1) t in
       let first = (and_parts (leb 8 ls.capacity && enough) (leb t 10000) tests.0).0 in
       leb-true (2 * ls.lifetime + 1) t (and_parts (leb 8 ls.capacity) enough first).1
 
-  one_empty : [] ≡ ls.one
+  -- K is at least 8
+  pub wide : 8 ≤ ls.capacity
+  wide =
+      let enough = leb (2 * ls.lifetime + 1) t in
+      let first = (and_parts (leb 8 ls.capacity && enough) (leb t 10000) tests.0).0 in
+      leb-true 8 ls.capacity (and_parts (leb 8 ls.capacity) enough first).0
+
+  -- and T is at most 10,000
+  pub short : t ≤ 10000
+  short =
+      let enough = leb (2 * ls.lifetime + 1) t in
+      leb-true t 10000 (and_parts (leb 8 ls.capacity && enough) (leb t 10000) tests.0).1
+
+  pub one_empty : [] ≡ ls.one
   one_empty =
       none_there ls.one (eqb-true (length ls.one) 0 (and_parts (eqb (length ls.one) 0) _ tests.1).0)
 
-  two_empty : [] ≡ ls.two
+  pub two_empty : [] ≡ ls.two
   two_empty =
       none_there ls.two (eqb-true (length ls.two) 0 (and_parts (eqb (length ls.one) 0) _ tests.1).1)
 
@@ -76,7 +89,7 @@ module _ (ls : Lists) (t : ℕ) (sound : (made ls t).fault ≡ None) where
   abbrev Starts : List Entry → List Entry → Type 0
   Starts one two = Good (made ls t).measures (state one two Closed None false fresh fresh) (account no_tally no_tally)
 
-  start : Starts ls.one ls.two
+  pub start : Starts ls.one ls.two
   start =
       subst (λ one. Starts one ls.two) one_empty
       (subst (λ two. Starts [] two) two_empty (both_closed, (record { whole = refl }, record { whole = refl })))

@@ -38,6 +38,13 @@ module _ {d : ℕ} {P : ℕ → Type 0} where
   marks_any Q w (blank l h) = blank l (marks_any Q w h)
   marks_any Q w (unmarked m l h) = unmarked m l (marks_any Q w h)
 
+  -- of its age nothing need be known
+  pub marks_some : {w : Bool} {es : List Entry} → Marks d P w es → Marks d (λ a. Unit {0}) w es
+  marks_some empty = empty
+  marks_some (blank l h) = blank l (marks_some h)
+  marks_some (unmarked m l h) = unmarked m l (marks_some h)
+  marks_some (mark m l p h) = mark m l tt (marks_some h)
+
   marks_true : {w : Bool} {es : List Entry} → Marks d P w es → Marks d P true es
   marks_true empty = empty
   marks_true (blank l h) = blank l (marks_true h)

@@ -10,7 +10,7 @@ use Rattle.link.specs.declared.refusal.LinkRefusal.{LinkRefusal}
 use Rattle.link.specs.declared.refusal.LinkRefusal.TheVariants.{Line, Timer, InUse, Station as ByStation}
 use Rattle.link.specs.State.{Measures, State}
 use Rattle.link.specs.Calls.{some, taken_by, takes_answer, takes_leaves}
-use Rattle.link.specs.History.{Tally, Account, acknowledge, at_end, opening, note_taken, note_take, removed, notes, takes}
+use Rattle.link.specs.History.{takes, Tally, Account, acknowledge, at_end, opening, note_taken, note_take, removed, notes}
 use Rattle.link.specs.Promise.{Whole}
 use Rattle.link.proofs.Ends.{told}
 use Rattle.link.proofs.Phases.{Good}
@@ -43,17 +43,26 @@ abbrev noted : End → Parts → Taken → State → Account → Account
 noted e f a next y = at_end e (note_taken f a (opening e f a next)) y
 
 -- a take of a frame that the number rule does not refuse
+granted : (g : Measures) (e : End) (x : State) (c : Counts) (h : Heard) →
+    takes_answer g e x ≡ answered_by h.refused c h → h.refused ≡ false → takes_answer g e x ≡ Ok (answered c h)
+granted g e x c h answer ok = answer ∙ ap (λ r. answered_by r c h) ok
+
+-- what is noted of it
+pub noted_heard : (g : Measures) (e : End) (x : State) (y : Account) (f : Parts) (c : Counts) (h : Heard) →
+    removed e x ≡ Some f → takes_answer g e x ≡ answered_by h.refused c h → h.refused ≡ false →
+    notes (takes e) g x y ≡ noted e f (answered c h) (takes_leaves g e x) y
+noted_heard g e x y f c h front answer ok =
+    let next : State = takes_leaves g e x in
+    ap (λ o. note_take o (takes_answer g e x) e next y) front
+    ∙ ap (λ a. note_take (Some f) a e next y) (granted g e x c h answer ok)
+
 pub heard : {g : Measures} {e : End} {x : State} {y : Account} (f : Parts) (c : Counts) (h : Heard) →
     removed e x ≡ Some f → takes_answer g e x ≡ answered_by h.refused c h → h.refused ≡ false →
     Good g (takes_leaves g e x) (noted e f (answered c h) (takes_leaves g e x) y) → Taking g e x y
 heard {g} {e} {x} {y} f c h front answer ok good =
-    let next : State = takes_leaves g e x in
-    let is : takes_answer g e x ≡ Ok (answered c h) = answer ∙ ap (λ r. answered_by r c h) ok in
     record {
-      unrefused = subst Unrefused (sym is) tt;
-      after =
-          subst (λ o. Good g next (note_take o (takes_answer g e x) e next y)) (sym front)
-          (subst (λ a. Good g next (note_take (Some f) a e next y)) (sym is) good);
+      unrefused = subst Unrefused (sym (granted g e x c h answer ok)) tt;
+      after = subst (Good g (takes_leaves g e x)) (sym (noted_heard g e x y f c h front answer ok)) good;
     }
 
 -- a frame that acknowledges nothing leaves the tally

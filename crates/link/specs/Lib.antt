@@ -6,4 +6,9 @@ pub mod Calls
 pub mod History
 pub mod Plays
 pub mod Promise
+pub mod Drain
+pub mod Sizes
+pub mod Acts
+pub mod DrainPromise
+pub mod DrainFacts
 pub mod Facts

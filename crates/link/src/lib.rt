@@ -2,12 +2,15 @@
 #![tactic(auto)]
 
 mod call;
+mod drained;
 mod end;
 mod fetched;
 mod link;
+mod part;
 mod refusal;
 
 pub use call::Call;
+pub use drained::Drained;
 pub use end::End;
 pub use fetched::Fetched;
 pub use link::Link;

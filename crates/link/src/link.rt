@@ -4,6 +4,7 @@ use lines::Line;
 use stations::{Primary, Secondary};
 
 mod calls;
+mod drain;
 mod play;
 mod questions;
 

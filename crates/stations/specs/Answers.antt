@@ -1,6 +1,8 @@
 -- What the number rule and a frame are answered by.
-use Rattle.std.specs.Prelude.{ℕ, Bool, true, false, cond, List, [], ◌∷◌, ◌++◌, length, drop, Some, None, Ok, Err, Option, Result}
+use Rattle.std.specs.Prelude.{ℕ, Bool, true, false, cond, List, [], ◌∷◌, ◌++◌, length, drop, Some, None, Ok, Err, Option, Result, ◌≤◌}
+use Rattle.stations.specs.declared.answer.Counts.{Counts}
 use Rattle.stations.specs.declared.answer.Heard.{Heard as Answer}
+use Rattle.stations.specs.declared.answer.Taken.{Taken}
 use Rattle.stations.specs.declared.refusal.StationRefusal.{StationRefusal}
 use Rattle.stations.specs.declared.refusal.StationRefusal.TheVariants.{Numbering}
 use Rattle.stations.specs.Station.{Block, Station, passed, allowed, acknowledge, sent, fetch_answer}
@@ -43,3 +45,12 @@ fetch_length (Ok z) = Ok (length z)
 abbrev pub fetch_writes : Result Block StationRefusal → List ℕ → List ℕ
 fetch_writes (Err e) place = place
 fetch_writes (Ok z) place = z ++ drop (length z) place
+
+-- a frame is answered by at most 8: a final and 7 blocks
+pub record FewFrames (c : Counts) : Type 0 where
+  pub put : c.put ≤ 8
+  pub lost : c.lost ≤ 8
+
+abbrev pub FewTaken : Result Taken StationRefusal → Type 0
+FewTaken (Ok a) = FewFrames a.counts
+FewTaken (Err e) = Unit {0}

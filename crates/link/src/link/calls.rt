@@ -3,6 +3,8 @@ ghost use Rattle.link.specs.Calls.{asked, after, opens_answer, opens_leaves, clo
 ghost use Rattle.link.specs.State.{check_by, check_answer, made};
 ghost use Rattle.link.specs.declared.end.End.TheVariants.{Primary as AtPrimary, Secondary as AtSecondary};
 ghost use Rattle.link.specs.Promise.{Law};
+ghost use Rattle.link.specs.DrainPromise.{DrainLaw};
+ghost use Rattle.link.specs.Sizes.{FewAnswered};
 ghost use Rattle.link.specs.Views.{model, with_state};
 
 use super::Link;
@@ -31,6 +33,7 @@ impl<L: Line> Link<L> {
     pub fn make(line: L, limit: usize) -> Link<L>
         ensures makes { model L.Line.meaning result ≡ made (L.Line.meaning line) limit }
         ensures law { Law (model L.Line.meaning result) }
+        ensures drains { DrainLaw (model L.Line.meaning result) }
         ensures keeps { L.Line.beyond result.line ≡ L.Line.beyond line }
         ensures tidy { L.Line.tidy line → L.Line.tidy result.line }
     {
@@ -48,7 +51,7 @@ impl<L: Line> Link<L> {
     }
 
     // A link that its check refused answers that number before all else.
-    fn sound(&self) -> Result<(), LinkRefusal>
+    pub(super) fn sound(&self) -> Result<(), LinkRefusal>
         ensures { result ≡ check_by (model L.Line.meaning self.now).fault }
     {
         match self.fault {
@@ -174,6 +177,7 @@ impl<L: Line> Link<L> {
 
     fn take_primary(&mut self) -> Result<Taken, LinkRefusal>
         ensures answers { result ≡ takes_answer (model L.Line.meaning self.old).measures AtPrimary (model L.Line.meaning self.old).now }
+        ensures few { FewAnswered result }
         ensures leaves { model L.Line.meaning self.new ≡ with_state (takes_leaves (model L.Line.meaning self.old).measures AtPrimary (model L.Line.meaning self.old).now) (model L.Line.meaning self.old) }
         ensures keeps { L.Line.beyond self.new.line ≡ L.Line.beyond self.old.line }
         ensures tidy { L.Line.tidy self.old.line → L.Line.tidy self.new.line }
@@ -184,6 +188,7 @@ impl<L: Line> Link<L> {
 
     fn take_secondary(&mut self) -> Result<Taken, LinkRefusal>
         ensures answers { result ≡ takes_answer (model L.Line.meaning self.old).measures AtSecondary (model L.Line.meaning self.old).now }
+        ensures few { FewAnswered result }
         ensures leaves { model L.Line.meaning self.new ≡ with_state (takes_leaves (model L.Line.meaning self.old).measures AtSecondary (model L.Line.meaning self.old).now) (model L.Line.meaning self.old) }
         ensures keeps { L.Line.beyond self.new.line ≡ L.Line.beyond self.old.line }
         ensures tidy { L.Line.tidy self.old.line → L.Line.tidy self.new.line }
@@ -195,6 +200,7 @@ impl<L: Line> Link<L> {
     // A line's take, then that station's rule.
     pub fn take(&mut self, end: End) -> Result<Taken, LinkRefusal>
         ensures answers { result ≡ asked (model L.Line.meaning self.old) (λ g x. takes_answer g end x) }
+        ensures few { FewAnswered result }
         ensures leaves { model L.Line.meaning self.new ≡ after (model L.Line.meaning self.old) (λ g x. takes_leaves g end x) }
         ensures keeps { L.Line.beyond self.new.line ≡ L.Line.beyond self.old.line }
         ensures tidy { L.Line.tidy self.old.line → L.Line.tidy self.new.line }

@@ -3,7 +3,7 @@ ghost use Rattle.frames.specs.Blocks.{parts_in};
 ghost use Rattle.lines.specs.Entries.{with_way};
 ghost use Rattle.stations.specs.declared.mode.Mode.TheVariants.{Closed};
 ghost use Rattle.stations.specs.Station.{fresh, outstanding, fetch_answer, fetch_leaves};
-ghost use Rattle.stations.specs.Answers.{fetch_length, fetch_writes};
+ghost use Rattle.stations.specs.Answers.{fetch_length, fetch_writes, FewTaken};
 ghost use Rattle.frames.specs.declared.way.Way.TheVariants.{One};
 ghost use Rattle.stations.specs.Puts.{put, status, counts};
 ghost use Rattle.stations.specs.Views.{primary_of, fetched_primary, is_busy};
@@ -31,6 +31,13 @@ impl Primary {
         ensures { result ≡ (primary_of self.now).mode }
     {
         self.mode
+    }
+
+    // The ticks since the request that it waits for an answer to.
+    pub fn timer(&self) -> Option<usize>
+        ensures { result ≡ (primary_of self.now).timer }
+    {
+        self.timer // off where no request is waiting
     }
 
     // How many blocks are sent and not acknowledged.
@@ -186,6 +193,7 @@ impl Primary {
         line: &mut L,
     ) -> Result<Taken, StationRefusal>
         ensures answers { result ≡ move_answer (status_hears (primary_of self.old) (is_busy far) nr b (L.Line.meaning line.old)) (L.Line.meaning line.old) }
+        ensures few { FewTaken result }
         ensures leaves { primary_of self.new ≡ status_move self.old.mode (status_hears (primary_of self.old) (is_busy far) nr b (L.Line.meaning line.old)) }
         ensures puts { L.Line.meaning line.new ≡ one_after (Ok (status_hears (primary_of self.old) (is_busy far) nr b (L.Line.meaning line.old))) (L.Line.meaning line.old) }
         ensures keeps { L.Line.beyond line.new ≡ L.Line.beyond line.old }
@@ -209,6 +217,7 @@ impl Primary {
     // What it does on a frame, by its mode and the frame's kind.
     pub fn hear<L: Line>(&mut self, frame: FrameBuf, line: &mut L) -> Result<Taken, StationRefusal>
         ensures answers { result ≡ move_answer (hears (primary_of self.old) (parts_in frame) (L.Line.meaning line.old)) (L.Line.meaning line.old) }
+        ensures few { FewTaken result }
         ensures leaves { primary_of self.new ≡ primary_after (Ok (hears (primary_of self.old) (parts_in frame) (L.Line.meaning line.old))) (primary_of self.old) }
         ensures puts { L.Line.meaning line.new ≡ one_after (Ok (hears (primary_of self.old) (parts_in frame) (L.Line.meaning line.old))) (L.Line.meaning line.old) }
         ensures keeps { L.Line.beyond line.new ≡ L.Line.beyond line.old }

@@ -4,7 +4,7 @@ ghost use Rattle.frames.specs.declared.way.Way.TheVariants.{Two};
 ghost use Rattle.lines.specs.Entries.{with_way};
 ghost use Rattle.stations.specs.Station.{fresh, outstanding, fetch_answer};
 ghost use Rattle.stations.specs.Puts.{put, status, again, again_tries, counts};
-ghost use Rattle.stations.specs.Answers.{fetch_length, fetch_writes};
+ghost use Rattle.stations.specs.Answers.{fetch_length, fetch_writes, FewFrames, FewTaken};
 ghost use Rattle.stations.specs.Views.{secondary_of, opened_by, fetched_secondary, is_busy};
 ghost use Rattle.stations.specs.Calls.{replies, returns, secondary_after, two_after, reply_counts, reply_answer, status_replies, status_reply};
 
@@ -81,6 +81,7 @@ impl Secondary {
     // The answer to a poll: its own status with B 1, then every outstanding block again.
     fn answer_poll<L: Line>(&self, line: &mut L) -> Counts
         ensures answers { result ≡ counts (suc (again_tries (secondary_of self.now).station)) (L.Line.meaning line.old).two (again (L.Line.meaning line.old).capacity (secondary_of self.now).station (put (L.Line.meaning line.old).capacity (L.Line.meaning line.old).two (status (secondary_of self.now).station))) }
+        ensures few { FewFrames result }
         ensures puts { L.Line.meaning line.new ≡ with_way Two (again (L.Line.meaning line.old).capacity (secondary_of self.now).station (put (L.Line.meaning line.old).capacity (L.Line.meaning line.old).two (status (secondary_of self.now).station))) (L.Line.meaning line.old) }
         ensures keeps { L.Line.beyond line.new ≡ L.Line.beyond line.old }
         ensures tidy { L.Line.tidy line.old → L.Line.tidy line.new }
@@ -110,6 +111,7 @@ impl Secondary {
         line: &mut L,
     ) -> Result<Taken, StationRefusal>
         ensures answers { result ≡ reply_answer (status_replies (secondary_of self.old) (is_busy far) nr b (L.Line.meaning line.old)) (L.Line.meaning line.old) }
+        ensures few { FewTaken result }
         ensures leaves { secondary_of self.new ≡ status_reply self.old.mode (status_replies (secondary_of self.old) (is_busy far) nr b (L.Line.meaning line.old)) }
         ensures puts { L.Line.meaning line.new ≡ two_after (Ok (status_replies (secondary_of self.old) (is_busy far) nr b (L.Line.meaning line.old))) (L.Line.meaning line.old) }
         ensures keeps { L.Line.beyond line.new ≡ L.Line.beyond line.old }
@@ -132,6 +134,7 @@ impl Secondary {
     // What it does on a frame, by its mode and the frame's kind.
     pub fn hear<L: Line>(&mut self, frame: FrameBuf, line: &mut L) -> Result<Taken, StationRefusal>
         ensures answers { result ≡ reply_answer (replies (secondary_of self.old) (parts_in frame) (L.Line.meaning line.old)) (L.Line.meaning line.old) }
+        ensures few { FewTaken result }
         ensures leaves { secondary_of self.new ≡ secondary_after (Ok (replies (secondary_of self.old) (parts_in frame) (L.Line.meaning line.old))) (secondary_of self.old) }
         ensures puts { L.Line.meaning line.new ≡ two_after (Ok (replies (secondary_of self.old) (parts_in frame) (L.Line.meaning line.old))) (L.Line.meaning line.old) }
         ensures keeps { L.Line.beyond line.new ≡ L.Line.beyond line.old }

@@ -1,4 +1,4 @@
-use Rattle.std.proofs.Common.{◌≡◌, [], ◌∙◌, ap₂}
+use Rattle.std.proofs.Common.{◌≡◌, [], ◌∙◌, ap₂, arith}
 use Rattle.frames.specs.Parts.{parts}
 use Rattle.stations.specs.Puts.{status}
 use Rattle.stations.specs.Views.{station_of}
@@ -17,6 +17,7 @@ returns g c =
       answers =
           answered_counts l k (m c.again-blocks.new.line) x p e c.deliver-status.ensures.leaves c.deliver-status.result c.again-blocks.result
           c.deliver-status.ensures.answers c.again-blocks.ensures.answers;
+      few = record { put = omega (arith, c.deliver-status.ensures.few, c.again-blocks.ensures.few); lost = omega (arith, c.deliver-status.ensures.few, c.again-blocks.ensures.few) };
       puts = answered_line l k (m c.again-blocks.new.line) x p e c.deliver-status.ensures.leaves c.again-blocks.ensures.leaves;
       keeps = c.again-blocks.ensures.keeps ∙ c.deliver-status.ensures.keeps;
       tidy = λ t. c.again-blocks.ensures.tidy (c.deliver-status.ensures.tidy t);
