@@ -71,6 +71,7 @@ pub enum LinkCommand {
     Fetch(End),
     Take(End),
     Strike(Burst),
+    Drain,
     Ask,
 }
 
@@ -210,6 +211,8 @@ pub fn misplaced(name: &[u8]) -> Fault {
         Fault::NoLine
     } else if is(name, "open") || is(name, "close") || is(name, "poll") {
         Fault::NoLink
+    } else if is(name, "drain") {
+        Fault::NoLink
     } else if is(name, "send") || is(name, "fetch") || is(name, "ask") {
         Fault::NoLink
     } else if is(name, "take") || is(name, "strike") || is(name, "tick") {
@@ -251,6 +254,8 @@ pub fn parse_for_link(heap: Global, text: &[u8]) -> Result<LinkCommand, Fault> {
         plain(LinkCommand::Poll, &mut words)
     } else if is(name, "tick") {
         plain(LinkCommand::Tick, &mut words)
+    } else if is(name, "drain") {
+        plain(LinkCommand::Drain, &mut words)
     } else if is(name, "ask") {
         plain(LinkCommand::Ask, &mut words)
     } else if is(name, "send") {

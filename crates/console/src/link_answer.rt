@@ -4,7 +4,7 @@ use crate::command::{LinkCommand, parse_for_link};
 use crate::hex;
 use frames::Way;
 use lines::Line;
-use link::{End, Link, LinkRefusal};
+use link::{Drained, End, Link, LinkRefusal};
 use stations::{Counts, Mode, SecondaryMode, Taken};
 use std::alloc::{AllocError, Global};
 
@@ -32,6 +32,21 @@ fn taken_text(heap: Global, answer: Result<Taken, LinkRefusal>) -> Result<String
             let passed = yes_or_no(answer.passed);
             format!(in heap;
                 "ok put={put} lost={lost} acknowledged={acknowledged} taken={taken} passed={passed}\n"
+            )
+        }
+        Err(refusal) => refused(heap, refusal),
+    }
+}
+
+fn drained_text(heap: Global, answer: Result<Drained, LinkRefusal>) -> Result<String, AllocError> {
+    match answer {
+        Ok(answer) => {
+            let Counts { put, lost } = answer.counts;
+            let ticks = answer.ticks;
+            let takes = answer.takes;
+            let settled = yes_or_no(answer.settled);
+            format!(in heap;
+                "ok put={put} lost={lost} ticks={ticks} takes={takes} settled={settled}\n"
             )
         }
         Err(refusal) => refused(heap, refusal),
@@ -114,6 +129,7 @@ fn answer<L: Line>(
             let answer = link.strike(burst.way, burst.place, burst.start, burst.mask);
             counts_text(heap, answer)
         }
+        LinkCommand::Drain => drained_text(heap, link.drain()),
         LinkCommand::Ask => ask(heap, link),
     }
 }

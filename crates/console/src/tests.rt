@@ -208,3 +208,75 @@ fn link_stands(rt: HostRuntime) -> Result<(), Fail> {
     }
     Ok(())
 }
+
+// A drain is refused until the primary is open. The first of seven blocks is struck and none is taken in; the drain has
+// all seven sent again, taken in and acknowledged, and tells the primary that the far queue is full.
+#[test]
+fn drains(rt: HostRuntime) -> Result<(), Fail> {
+    let heap = rt.alloc();
+    let nothing = told_alone(heap, b"drain")?;
+    assert_eq!(rt; nothing.as_str(), "!error: no link stands\n");
+    let lines: [(&[u8], &str); 25] = [
+        (b"drain now", TOO_MANY),
+        (b"drain", "refused 18 mode\n"),
+        (b"open", "ok put=1 lost=0\n"),
+        (b"drain", "refused 18 mode\n"),
+        (
+            b"take secondary",
+            "ok put=1 lost=0 acknowledged=0 taken=no passed=no\n",
+        ),
+        (
+            b"take primary",
+            "ok put=0 lost=0 acknowledged=0 taken=no passed=no\n",
+        ),
+        (b"send primary 6f6e65", "ok put=1 lost=0\n"),
+        (b"send primary 74776f", "ok put=1 lost=0\n"),
+        (b"send primary -", "ok put=1 lost=0\n"),
+        (b"send primary 04", "ok put=1 lost=0\n"),
+        (b"send primary 05", "ok put=1 lost=0\n"),
+        (b"send primary 06", "ok put=1 lost=0\n"),
+        (b"send primary 07", "ok put=1 lost=0\n"),
+        (b"strike 1 0 0 1", "ok put=0 lost=0\n"),
+        (b"take secondary", "refused 10 damaged\n"),
+        (
+            b"take secondary",
+            "ok put=0 lost=0 acknowledged=0 taken=no passed=no\n",
+        ),
+        (
+            b"take secondary",
+            "ok put=0 lost=0 acknowledged=0 taken=no passed=no\n",
+        ),
+        (
+            b"take secondary",
+            "ok put=0 lost=0 acknowledged=0 taken=no passed=no\n",
+        ),
+        (
+            b"take secondary",
+            "ok put=0 lost=0 acknowledged=0 taken=no passed=no\n",
+        ),
+        (
+            b"take secondary",
+            "ok put=0 lost=0 acknowledged=0 taken=no passed=no\n",
+        ),
+        (
+            b"take secondary",
+            "ok put=0 lost=0 acknowledged=0 taken=no passed=no\n",
+        ),
+        (b"drain", "ok put=11 lost=0 ticks=0 takes=11 settled=yes\n"),
+        (b"send primary 2a", "refused 21 far busy\n"),
+        (
+            b"fetch secondary",
+            "ok put=0 lost=0 length=3 block=6f6e65\n",
+        ),
+        (b"drain", "ok put=4 lost=0 ticks=0 takes=4 settled=yes\n"),
+    ];
+    let mut one = [Record::blank(); 8];
+    let mut two = [Record::blank(); 8];
+    let line = TableLine::make(8, 2, &mut one, &mut two);
+    let mut link = Link::make(line, 5);
+    for (text, reply) in lines {
+        let text = told(heap, link_reply(heap, text, &mut link)?)?;
+        assert_eq!(rt; text.as_str(), reply);
+    }
+    Ok(())
+}

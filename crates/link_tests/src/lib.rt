@@ -4,6 +4,8 @@
 #[cfg(test)]
 mod answers;
 #[cfg(test)]
+mod drains;
+#[cfg(test)]
 mod exchanges;
 #[cfg(test)]
 mod links;
