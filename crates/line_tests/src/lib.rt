@@ -2,6 +2,9 @@
 #![tactic(auto)]
 
 #[cfg(test)]
+mod rings;
+
+#[cfg(test)]
 mod tests {
     use frames::{FrameBuf, FrameRefusal, Kind, Way};
     use lines::{Blank, Line, LineRefusal, OctetLine, Record, Ring, TableLine};
