@@ -1,6 +1,6 @@
 -- A burst within 16 bits of octets that pass the check makes them fail it.
-use Rattle.std.proofs.Common.{◌≡◌, ℕ, zero, suc, ◌+◌, ◌-◌, ◌*◌, ◌/◌, ◌%◌, ◌^◌, ◌<◌, ◌≤◌, List, [], ◌∷◌, ◌++◌, length, get_or, take, drop, set, sym, refl, ap, ◌∙◌, subst, ap₂, arith, take-append-drop}
-use lib.Bits.{bit_xor, xor_comm, xor_assoc, xor_self, xor_zero_r, xor_zero_l, xor_shifted}
+use Rattle.std.proofs.Common.{◌≡◌, ℕ, ◌+◌, ◌-◌, ◌*◌, ◌/◌, ◌%◌, ◌^◌, ◌<◌, ◌≤◌, List, length, sym, ap, ◌∙◌, arith, take-append-drop}
+use lib.Bits.{bit_xor, xor_comm, xor_assoc, xor_self, xor_zero_r, xor_shifted}
 use Rattle.frames.specs.Fcs.{shift, shifts, register, check_octets, before, behind, Checked}
 use Rattle.frames.specs.Bits.{flips}
 use Rattle.frames.proofs.Linear.{shifts_xor, shifts_add, shifts_pow, shifts_zero}

@@ -1,5 +1,5 @@
 -- A control octet says what it was written from, and is written from what it says.
-use Rattle.std.proofs.Common.{◌≡◌, ℕ, zero, suc, ◌+◌, ◌*◌, ◌/◌, ◌%◌, ◌<◌, Bool, true, false, ◌&&◌, T, eqb, ◌⊎◌, Some, None, Option, sym, ap, subst, inl, inr, not-suc-le-zero, arith, eqb→eq}
+use Rattle.std.proofs.Common.{◌≡◌, ℕ, zero, suc, ◌<◌, Bool, true, false, ◌&&◌, T, eqb, Some, None, Option, sym, ap, subst, inl, inr, not-suc-le-zero, arith, eqb→eq}
 use Rattle.std.proofs.lemmas.Bool.{eqb-true, eqb-false, cases_Bool}
 use Rattle.std.proofs.lemmas.Bool.Decides.{nat_tests}
 use Rattle.frames.specs.declared.way.Way.{Way}

@@ -1,6 +1,6 @@
 -- The shift of the register is linear over xor, and no number within the register is shifted to 0 but 0 itself.
-use Rattle.std.proofs.Common.{◌≡◌, ℕ, zero, suc, ◌+◌, ◌-◌, ◌*◌, ◌/◌, ◌%◌, ◌^◌, ◌<◌, ◌≤◌, ◌⊎◌, List, [], ◌∷◌, ◌++◌, sym, refl, ap, ◌∙◌, subst, ap₂, inl, inr, mul_assoc, suc-add, pow-suc, zero-add, mul-one, arith}
-use lib.Bits.{bit_xor, xor_shr, xor_mod, xor_comm, xor_assoc, xor_self, xor_zero_r, xor_zero_l, xor_lt, xor_shifted}
+use Rattle.std.proofs.Common.{◌≡◌, ℕ, zero, suc, ◌+◌, ◌*◌, ◌/◌, ◌%◌, ◌^◌, ◌<◌, ◌⊎◌, sym, refl, ap, ◌∙◌, ap₂, inl, inr, mul_assoc, suc-add, pow-suc, zero-add, mul-one, arith}
+use lib.Bits.{bit_xor, xor_shr, xor_mod, xor_comm, xor_assoc, xor_self, xor_zero_r, xor_lt}
 use Rattle.frames.specs.Fcs.{shift, shifts}
 
 below_two : (n : ℕ) → n < 2 → (n ≡ 0) ⊎ (n ≡ 1)

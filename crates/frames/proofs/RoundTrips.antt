@@ -5,12 +5,12 @@ use Rattle.std.proofs.lemmas.List.{take_at, drop_at, nil_from_length}
 use Rattle.frames.specs.declared.way.Way.{Way}
 use Rattle.frames.specs.declared.kind.Kind.{Kind}
 use Rattle.frames.specs.declared.refusal.FrameRefusal.{FrameRefusal}
-use Rattle.frames.specs.declared.refusal.FrameRefusal.TheVariants.{Long, Control, Stray}
+use Rattle.frames.specs.declared.refusal.FrameRefusal.TheVariants.{Long, Stray}
 use Rattle.frames.specs.Refusals.{refuse}
 use Rattle.frames.specs.Parts.{Head, head, Parts, parts, head_of, info_of, informs}
 use Rattle.frames.specs.Fcs.{check_octets, before, Checked}
 use Rattle.frames.specs.Control.{carries, numbered, control, control_answer, decode}
-use Rattle.frames.specs.Reader.{address, control_octet, information, stray, said, said_answer, read_answer}
+use Rattle.frames.specs.Reader.{address, control_octet, information, stray, said, read_answer}
 use Rattle.frames.specs.Writer.{octets_of, admit_by, admit_answer, octets_by, frame_octets}
 use Rattle.frames.proofs.Checks.{checked_of, checks_of}
 use Rattle.frames.proofs.ControlOctets.{says, written_from}

@@ -1,7 +1,7 @@
 -- A run of octets as one number, bit b of the run as its bit b: the register is that number, shifted.
-use Rattle.std.proofs.Common.{◌≡◌, ℕ, zero, suc, ◌+◌, ◌-◌, ◌*◌, ◌/◌, ◌%◌, ◌^◌, ◌<◌, ◌≤◌, Bool, true, false, cond, eqb, ◌⊎◌, List, [], ◌∷◌, ◌++◌, length, get_or, take, drop, set, sym, refl, ap, ◌∙◌, subst, ap₂, inl, inr, le_of_suc-le-suc, not-suc-le-zero, add-zero, mul_assoc, mul_comm, suc-add, one-mul, pow-suc, zero-add, zero-mul, mul-one, arith, length-set, pow_pos, pow-add}
-use lib.Bits.{bit_xor, xor_comm, xor_assoc, xor_self, xor_zero_r, xor_shifted, xor_block}
-use Rattle.frames.specs.Fcs.{shift, shifts, taken, register}
+use Rattle.std.proofs.Common.{◌≡◌, ℕ, zero, suc, ◌+◌, ◌*◌, ◌/◌, ◌%◌, ◌^◌, ◌<◌, ◌≤◌, cond, eqb, List, [], ◌∷◌, ◌++◌, length, get_or, set, sym, refl, ap, ◌∙◌, ap₂, inl, inr, le_of_suc-le-suc, not-suc-le-zero, add-zero, mul_assoc, mul_comm, one-mul, pow-suc, zero-mul, mul-one, arith, length-set, pow_pos, pow-add}
+use lib.Bits.{bit_xor, xor_comm, xor_assoc, xor_zero_r, xor_shifted, xor_block}
+use Rattle.frames.specs.Fcs.{shifts, taken, register}
 use Rattle.frames.specs.Bits.{flip_bit, flips}
 use Rattle.frames.proofs.Linear.{bit, shifts_xor, shifts_add, shifts_pow}
 

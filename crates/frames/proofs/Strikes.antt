@@ -1,11 +1,11 @@
 -- Octets that were read are refused with check once a burst has struck them.
-use Rattle.std.proofs.Common.{◌≡◌, ℕ, suc, ◌+◌, ◌*◌, ◌/◌, ◌%◌, ◌^◌, ◌<◌, ◌≤◌, true, false, cond, not, eqb, leb, List, length, Ok, Err, sym, ap, ◌∙◌, inl, inr, arith}
+use Rattle.std.proofs.Common.{◌≡◌, ℕ, ◌+◌, ◌*◌, ◌^◌, ◌<◌, ◌≤◌, true, false, cond, not, eqb, leb, List, length, Ok, Err, ap, ◌∙◌, inl, inr, arith}
 use Rattle.std.proofs.lemmas.Bool.{le-ltb, cases_Bool, and_parts, leb-true, eqb-false, not-true}
 use Rattle.frames.specs.declared.way.Way.{Way}
 use Rattle.frames.specs.declared.refusal.FrameRefusal.TheVariants.{Check}
 use Rattle.frames.specs.Parts.{Parts}
 use Rattle.frames.specs.Fcs.{checks}
-use Rattle.frames.specs.Bits.{flip_bit, flips, strike_answer, strike_leaves}
+use Rattle.frames.specs.Bits.{flips, strike_answer, strike_leaves}
 use Rattle.frames.specs.Reader.{read_answer}
 use Rattle.frames.specs.Laws.{Seen}
 use Rattle.frames.proofs.Bursts.{burst_seen}

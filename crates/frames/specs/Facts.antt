@@ -1,5 +1,5 @@
 -- Control octets worked out from the definitions.
-use Rattle.std.specs.Prelude.{◌≡◌, ℕ, List, [], Ok, Err, Result}
+use Rattle.std.specs.Prelude.{◌≡◌, [], Ok, Err}
 use Rattle.frames.specs.declared.way.Way.{Way}
 use Rattle.frames.specs.declared.way.Way.TheVariants.{One, Two}
 use Rattle.frames.specs.declared.kind.Kind.TheVariants.{I, Rnr, Sarm, Dm}

@@ -1,5 +1,5 @@
 -- The seven refusals of a frame: their numbers, their words, and how one goes before what follows it.
-use Rattle.std.specs.Prelude.{ℕ, Bool, cond, List, Ok, Err, codes, Result}
+use Rattle.std.specs.Prelude.{ℕ, Bool, cond, List, Err, codes, Result}
 use Rattle.frames.specs.declared.refusal.FrameRefusal.{FrameRefusal}
 use Rattle.frames.specs.declared.refusal.FrameRefusal.TheVariants.{Short, Long, Check, Address, Control, Stray, NoSpace}
 

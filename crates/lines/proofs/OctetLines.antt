@@ -10,7 +10,7 @@ use Rattle.lines.specs.declared.octets.OctetLine.{OctetLine}
 use Rattle.lines.specs.Entries.{Entry, Lists, with_way, at, Bounded}
 use Rattle.lines.specs.Octets.{cut, records, records_on, struck_records, FoundIn, places, Zeroed, octet_meaning}
 use Rattle.lines.specs.Packed.{age_in, burst, Neat, packed_entry}
-use Rattle.lines.specs.Ring.{size, held, free, Blanked}
+use Rattle.lines.specs.Ring.{size, held, Blanked}
 use Rattle.lines.specs.Stored.{fit, lists_by, age, aged, turned}
 use Rattle.lines.proofs.Ages.{turn_one, turn_old}
 use Rattle.lines.proofs.Cuts.{cut_length}

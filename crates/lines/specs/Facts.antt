@@ -1,10 +1,10 @@
 -- Worked out from the definitions: which bursts a frame without information allows, and how long an entry stands at D = 2.
-use Rattle.std.specs.Prelude.{◌≡◌, ℕ, List, [], ◌∷◌, Ok, Err}
+use Rattle.std.specs.Prelude.{◌≡◌, ℕ, [], ◌∷◌, Ok, Err}
 use Rattle.frames.specs.declared.way.Way.TheVariants.{One}
 use Rattle.frames.specs.declared.kind.Kind.{Kind}
 use Rattle.frames.specs.Parts.{Parts, parts}
 use Rattle.lines.specs.declared.refusal.LineRefusal.TheVariants.{OffFrame}
-use Rattle.lines.specs.Entries.{Entry, frame, Lists, on}
+use Rattle.lines.specs.Entries.{frame, Lists, on}
 use Rattle.lines.specs.Line.{bits, strike_answer, tick_leaves}
 
 -- a line of K = 8 and D = 2 with one frame, just put, on way 1

@@ -1,9 +1,9 @@
 -- What each call on a line answers, and what the line then means.
-use Rattle.std.specs.Prelude.{ℕ, zero, suc, ◌+◌, ◌*◌, Bool, true, false, cond, not, ◌&&◌, List, [], ◌∷◌, ◌++◌, length, drop, is_ok, Some, None, Ok, Err, Option, Result, ◌==◌, nat_le, nat_lt}
+use Rattle.std.specs.Prelude.{ℕ, zero, suc, ◌+◌, ◌*◌, Bool, true, false, cond, ◌&&◌, List, [], ◌∷◌, ◌++◌, length, drop, is_ok, Some, None, Ok, Err, Option, Result, ◌==◌, nat_le, nat_lt}
 use Rattle.frames.specs.declared.way.Way.{Way}
 use Rattle.frames.specs.declared.refusal.FrameRefusal.{FrameRefusal}
 use Rattle.frames.specs.declared.frame_buf.FrameBuf.{FrameBuf}
-use Rattle.frames.specs.Parts.{Parts, parts, info_of}
+use Rattle.frames.specs.Parts.{Parts, info_of}
 use Rattle.frames.specs.Blocks.{parts_in}
 use Rattle.frames.specs.Writer.{admit_answer}
 use Rattle.lines.specs.declared.refusal.LineRefusal.{LineRefusal}

@@ -1,9 +1,9 @@
 -- The law of drains: a link that its check grants keeps its promise after every list of calls and drains.
-use Rattle.std.proofs.Common.{◌≡◌, ℕ, List, length, None, sym, refl, ap, subst, arith}
+use Rattle.std.proofs.Common.{◌≡◌, ℕ, List, length, None, sym, ap, subst, arith}
 use Rattle.lines.specs.Entries.{Lists}
 use Rattle.link.specs.State.{Model, made}
-use Rattle.link.specs.History.{Call, run, Account, account, no_tally, account_of}
-use Rattle.link.specs.Acts.{Act, singles, led, account_after}
+use Rattle.link.specs.History.{Call, account, no_tally}
+use Rattle.link.specs.Acts.{Act, singles, account_after}
 use Rattle.link.specs.DrainPromise.{Drainable, KeptThrough, DrainLaw}
 use Rattle.link.proofs.Histories.{run_sound, keep_run}
 use Rattle.link.proofs.Fits.{Fits, fits, fits_run}

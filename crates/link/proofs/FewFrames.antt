@@ -1,5 +1,5 @@
 -- A poll and a tick put and lose few frames, so that the counts of a drain stay small.
-use Rattle.std.proofs.Common.{ℕ, ◌+◌, Bool, true, false, ltb, leb, List, length, Some, None, Ok, Err, Option, Result, arith}
+use Rattle.std.proofs.Common.{ℕ, ◌+◌, Bool, true, false, ltb, leb, List, length, Some, None, Option, Result, arith}
 use Rattle.frames.specs.Parts.{Parts}
 use Rattle.lines.specs.Entries.{Entry}
 use Rattle.lines.specs.Line.{older}

@@ -1,8 +1,7 @@
 -- What a link holds and answers, from what its line and its stations hold and answer.
-use Rattle.std.proofs.Common.{◌≡◌, ℕ, Bool, true, false, List, [], ◌∷◌, drop, Ok, Err, Option, Result, sym, refl, ap, ◌∙◌, ap₂, arith}
+use Rattle.std.proofs.Common.{◌≡◌, ℕ, Bool, true, false, List, [], ◌∷◌, drop, Ok, Err, Option, Result, refl, ap, ◌∙◌, ap₂, arith}
 use Rattle.frames.specs.declared.way.Way.TheVariants.{One, Two}
 use Rattle.frames.specs.Parts.{Parts}
-use Rattle.lines.specs.declared.refusal.LineRefusal.{LineRefusal}
 use Rattle.lines.specs.Entries.{Entry, struck, frame, Lists, with_way}
 use Rattle.lines.specs.Line.{oldest, take_leaves}
 use Rattle.stations.specs.declared.answer.Counts.{Counts}

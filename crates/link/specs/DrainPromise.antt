@@ -1,5 +1,5 @@
 -- What a sound link promises of its drains, and after every history with drains among its calls.
-use Rattle.std.specs.Prelude.{◌≡◌, ℕ, ◌+◌, ◌*◌, ◌≤◌, List, length, true, None, Ok}
+use Rattle.std.specs.Prelude.{◌≡◌, ◌+◌, ◌*◌, ◌≤◌, List, length, true, None, Ok}
 use Rattle.frames.specs.declared.way.Way.{Way}
 use Rattle.stations.specs.declared.mode.Mode.TheVariants.{Open}
 use Rattle.stations.specs.Station.{Block}

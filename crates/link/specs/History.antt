@@ -5,7 +5,6 @@ use Rattle.frames.specs.declared.way.Way.{Way}
 use Rattle.frames.specs.declared.kind.Kind.TheVariants.{I, Rr, Rnr, Sarm, Disc, Ua, Dm}
 use Rattle.frames.specs.Parts.{Parts, parts, info_of}
 use Rattle.lines.specs.Entries.{Entry, struck, frame}
-use Rattle.stations.specs.declared.mode.Mode.{Mode}
 use Rattle.stations.specs.declared.answer.Counts.{Counts}
 use Rattle.stations.specs.declared.answer.Taken.{Taken}
 use Rattle.stations.specs.Station.{Block}

@@ -1,5 +1,5 @@
 -- What a link holds, and when it is sound.
-use Rattle.std.specs.Prelude.{ℕ, ◌+◌, ◌*◌, Bool, true, false, not, ◌&&◌, List, [], length, Some, None, Ok, Err, Option, Result, ◌==◌, nat_le}
+use Rattle.std.specs.Prelude.{ℕ, ◌+◌, ◌*◌, Bool, true, false, ◌&&◌, List, length, Some, None, Ok, Err, Option, Result, ◌==◌, nat_le}
 use Rattle.lines.specs.Entries.{Entry, Lists}
 use Rattle.stations.specs.declared.mode.Mode.{Mode}
 use Rattle.stations.specs.declared.mode.Mode.TheVariants.{Closed}

@@ -1,5 +1,5 @@
 -- What the code's link holds.
-use Rattle.std.specs.Prelude.{ℕ, Bool, Option}
+use Rattle.std.specs.Prelude.{ℕ, Option}
 use Rattle.lines.specs.Entries.{Lists}
 use Rattle.stations.specs.Views.{PrimaryView, SecondaryView, primary_of, secondary_of}
 use Rattle.link.specs.declared.refusal.LinkRefusal.{LinkRefusal}

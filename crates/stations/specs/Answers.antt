@@ -5,7 +5,7 @@ use Rattle.stations.specs.declared.answer.Heard.{Heard as Answer}
 use Rattle.stations.specs.declared.answer.Taken.{Taken}
 use Rattle.stations.specs.declared.refusal.StationRefusal.{StationRefusal}
 use Rattle.stations.specs.declared.refusal.StationRefusal.TheVariants.{Numbering}
-use Rattle.stations.specs.Station.{Block, Station, passed, allowed, acknowledge, sent, fetch_answer}
+use Rattle.stations.specs.Station.{Block, Station, passed, allowed, acknowledge, sent}
 use Rattle.stations.specs.Rule.{Heard}
 
 -- N(R) is allowed: how many blocks it passes

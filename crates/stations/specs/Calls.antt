@@ -1,5 +1,5 @@
 -- The calls of the two stations over a line: the primary puts on way 1, the secondary on way 2.
-use Rattle.std.specs.Prelude.{ℕ, Bool, true, false, List, Ok, Err, Result, ◌==◌}
+use Rattle.std.specs.Prelude.{ℕ, Bool, true, false, Ok, Err, Result, ◌==◌}
 use Rattle.frames.specs.declared.way.Way.TheVariants.{One, Two}
 use Rattle.frames.specs.Parts.{Parts}
 use Rattle.lines.specs.Entries.{Lists, with_way}

@@ -1,6 +1,6 @@
-use Rattle.std.proofs.Common.{◌≡◌, ◌<◌, length, codes, ap, ◌∙◌, arith, rules, true-eqb, false-eqb}
+use Rattle.std.proofs.Common.{◌≡◌, ◌<◌, length, ap, ◌∙◌, arith, rules, true-eqb, false-eqb}
 use Rattle.std.proofs.lemmas.Result.{IfOk-weaker}
-use Rattle.console.specs.Hex.{octets_answer, digits_of, text_of}
+use Rattle.console.specs.Hex.{octets_answer}
 use Rattle.console.proofs.Texts.{text_back, text_none, text_some}
 use Rattle.console.proofs.hex.text.Goals as goal
 

@@ -1,4 +1,4 @@
-use Rattle.std.proofs.Common.{◌-◌, not, length}
+use Rattle.std.proofs.Common.{◌-◌, length}
 use Rattle.console.specs.Words.{white}
 use Rattle.console.proofs.Fronts.{Counted}
 use Rattle.console.proofs.words.count_white.Given as goal

@@ -4,7 +4,7 @@ use Rattle.std.proofs.ByRecursion.{All-drop}
 use Rattle.std.proofs.lemmas.Bool.{leb-true, leb-false}
 use Rattle.lines.specs.Octets.{cut, NeatIf}
 use Rattle.lines.specs.Packed.{Neat}
-use Rattle.lines.specs.Ring.{held, free}
+use Rattle.lines.specs.Ring.{held}
 use Rattle.lines.proofs.Cuts.{cut_shed, cut_at, peeked, few, shed_even, neat_at}
 use Rattle.lines.proofs.Runs.{kept_same}
 use Rattle.lines.proofs.octets.store.pop.Goals as goal

@@ -1,7 +1,5 @@
 use Rattle.std.proofs.Common.{◌≡◌, length, arith}
-use Rattle.lines.specs.Ring.{held, free}
 use Rattle.lines.proofs.Cuts.{append_fits, append_holds, append_even, neat_push}
-use Rattle.lines.proofs.Stores.{fits}
 use Rattle.lines.proofs.octets.store.push.Goals as goal
 
 pub returns : goal.returns

@@ -3,7 +3,7 @@ use Rattle.std.specs.List.{AllByRecursion}
 use Rattle.std.proofs.ByRecursion.{All-set}
 use Rattle.lines.specs.Octets.{cut}
 use Rattle.lines.specs.Packed.{Neat}
-use Rattle.lines.specs.Ring.{held, free}
+use Rattle.lines.specs.Ring.{held}
 use Rattle.lines.proofs.Cuts.{cut_set_past, poked}
 use Rattle.lines.proofs.Runs.{kept_same}
 use Rattle.lines.proofs.octets.store.replace.Goals as goal

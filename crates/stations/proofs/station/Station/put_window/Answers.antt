@@ -1,4 +1,4 @@
-use Rattle.std.proofs.Common.{◌≡◌, ℕ, ◌+◌, ◌-◌, ◌<◌, ◌≤◌, length, drop, sym, ap, ◌∙◌, arith, rules}
+use Rattle.std.proofs.Common.{◌≡◌, ℕ, ◌-◌, ◌<◌, ◌≤◌, length, sym, ap, ◌∙◌, arith, rules}
 use Rattle.lines.specs.Entries.{on, with_way, at}
 use Rattle.stations.specs.declared.answer.Counts.{Counts}
 use Rattle.stations.specs.Puts.{put_at, again_from}

@@ -1,4 +1,4 @@
-use Rattle.std.proofs.Common.{◌≡◌, min, drop, sym, ap, ◌∙◌, arith}
+use Rattle.std.proofs.Common.{drop, ap, ◌∙◌, arith}
 use Rattle.stations.specs.Blocks.{in_window}
 use Rattle.stations.proofs.BlockRows.{row_drop, row_length, drop_least}
 use Rattle.stations.proofs.window.Window.shed.Goals as goal
