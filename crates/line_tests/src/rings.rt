@@ -113,7 +113,7 @@ fn wrong(ring: &mut Ring<'_, u8>, rows: &[(Move, Answer)]) -> Option<usize> {
 
 // Slots that hold nothing are zero, and the memory behind the slots is as it was.
 #[test]
-fn ring(rt: HostRuntime) {
+fn ring_by_a_table(rt: HostRuntime) {
     let mut memory = [9; 7];
     let mut ring = Ring::make(&mut memory, 5);
     assert_eq!(rt; wrong(&mut ring, &MOVES), None);

@@ -17,7 +17,7 @@ use Rattle.link.specs.State.{Measures, State, state, Model}
 use Rattle.link.specs.Calls.{by_primary}
 use Rattle.link.specs.Questions.{mode_of, entries_on}
 use Rattle.link.specs.History.{Call, ticks, takes, run, step, Tally, Account, account, account_of}
-use Rattle.link.specs.Drain.{way_to, timer_of, drain_parts, part_calls, walk, frames_of, no_calls, counted, counted_all, settled_at, drained}
+use Rattle.link.specs.Drain.{way_to, timer_of, drain_parts, part_calls, walk, frames_of, no_calls, counted_call, counted_all, settled_at, drained}
 use Rattle.link.specs.DrainPromise.{NothingWaits, AllAcknowledged, Accepted, Drains, Drainable}
 use Rattle.link.proofs.Marks.{Marks, empty, marked_status, marks_any, marks_some}
 use Rattle.link.proofs.Exchange.{Exchange, Quiet, NoAge, idle, asked, answered, quiet, exchange_ask, exchange_tick, exchange_out}
@@ -79,14 +79,14 @@ takes_counted : (l : Model) (n : ℕ) (e : End) (d : Drained) →
     ((counted_all l (replicate n (takes e)) d).ticks ≡ d.ticks) × ((counted_all l (replicate n (takes e)) d).takes ≡ d.takes + n)
 takes_counted l zero e d = (refl, omega arith)
 takes_counted l (suc n) e d =
-    let h = takes_counted (step l (takes e)) n e (counted (takes e) (frames_of (takes e) l) d) in
+    let h = takes_counted (step l (takes e)) n e (counted_call (takes e) (frames_of (takes e) l) d) in
     (omega (arith, h.0), omega (arith, h.1))
 
 ticks_counted : (l : Model) (n : ℕ) (d : Drained) →
     ((counted_all l (replicate n ticks) d).ticks ≡ d.ticks + n) × ((counted_all l (replicate n ticks) d).takes ≡ d.takes)
 ticks_counted l zero d = (omega arith, refl)
 ticks_counted l (suc n) d =
-    let h = ticks_counted (step l ticks) n (counted ticks (frames_of ticks l) d) in
+    let h = ticks_counted (step l ticks) n (counted_call ticks (frames_of ticks l) d) in
     (omega (arith, h.0), omega (arith, h.1))
 
 -- where a pass at an end leads from a state

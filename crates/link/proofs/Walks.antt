@@ -6,14 +6,14 @@ use Rattle.link.specs.declared.drained.Drained.{Drained}
 use Rattle.link.specs.declared.part.Part.{Part}
 use Rattle.link.specs.State.{Model}
 use Rattle.link.specs.History.{Call, step, run}
-use Rattle.link.specs.Drain.{part_calls, walk, frames_of, no_calls, more, counted, counted_all, settled_at, settled_by, drained}
+use Rattle.link.specs.Drain.{part_calls, walk, frames_of, no_calls, more, counted_call, counted_all, settled_at, settled_by, drained}
 use Rattle.link.specs.Sizes.{Few, Grown}
 use Rattle.link.proofs.Histories.{run_append}
 
 pub counted_append : (l : Model) (before after : List Call) (d : Drained) →
     counted_all l (before ++ after) d ≡ counted_all (run l before) after (counted_all l before d)
 counted_append l [] after d = refl
-counted_append l (c ∷ cs) after d = counted_append (step l c) cs after (counted c (frames_of c l) d)
+counted_append l (c ∷ cs) after d = counted_append (step l c) cs after (counted_call c (frames_of c l) d)
 
 -- ---- a call made n times, of which i are done: the link stood at l with the counts d, and stands at m with e
 pub record Repeats (n i : ℕ) (c : Call) (l m : Model) (d e : Drained) : Type 0 where
@@ -29,7 +29,7 @@ repeats_none n c l d =
     }
 
 module _ (n i : ℕ) (c : Call) (l m m' : Model) (d e e' : Drained) (h : Repeats n i c l m d e) where
-  pub repeats_more : i < n → m' ≡ step m c → e' ≡ counted c (frames_of c m) e → Repeats n (i + 1) c l m' d e'
+  pub repeats_more : i < n → m' ≡ step m c → e' ≡ counted_call c (frames_of c m) e → Repeats n (i + 1) c l m' d e'
   repeats_more less p q =
       let left : n - i ≡ suc (n - (i + 1)) = omega arith in
       let rest : ℕ = n - (i + 1) in

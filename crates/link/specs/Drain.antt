@@ -53,7 +53,7 @@ abbrev pub walk : List Part → Model → List Call
 walk [] l = []
 walk (p ∷ ps) l = part_calls p l ++ walk ps (run l (part_calls p l))
 
--- ---- what is counted
+-- ---- what is counted_call
 
 abbrev pub counts_by : Result Counts LinkRefusal → Counts
 counts_by (Ok c) = c
@@ -88,20 +88,20 @@ more i j c d =
     }
 
 -- a tick counts as a tick, and a take as a take, of a struck entry too
-abbrev pub counted : Call → Counts → Drained → Drained
-counted opens c d = more 0 0 c d
-counted closes c d = more 0 0 c d
-counted polls c d = more 0 0 c d
-counted ticks c d = more 1 0 c d
-counted (sends e z) c d = more 0 0 c d
-counted (takes e) c d = more 0 1 c d
-counted (fetches e) c d = more 0 0 c d
-counted (strikes w place start mask) c d = more 0 0 c d
+abbrev pub counted_call : Call → Counts → Drained → Drained
+counted_call opens c d = more 0 0 c d
+counted_call closes c d = more 0 0 c d
+counted_call polls c d = more 0 0 c d
+counted_call ticks c d = more 1 0 c d
+counted_call (sends e z) c d = more 0 0 c d
+counted_call (takes e) c d = more 0 1 c d
+counted_call (fetches e) c d = more 0 0 c d
+counted_call (strikes w place start mask) c d = more 0 0 c d
 
 -- a list of calls, along the run that they make
 abbrev pub counted_all : Model → List Call → Drained → Drained
 counted_all l [] d = d
-counted_all l (c ∷ cs) d = counted_all (step l c) cs (counted c (frames_of c l) d)
+counted_all l (c ∷ cs) d = counted_all (step l c) cs (counted_call c (frames_of c l) d)
 
 -- ---- the call
 

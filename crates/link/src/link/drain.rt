@@ -1,6 +1,6 @@
 // Draining a link: takes, ticks and polls until nothing is on its way.
 ghost use Rattle.std.specs.Prelude.{◌≡◌, ◌≤◌, [], ◌∷◌, replicate};
-ghost use Rattle.link.specs.Drain.{drain_parts, drain_answer, drain_calls, drained, walk, part_calls, counts_by, frames_of, more, counted, counted_all, settled_at};
+ghost use Rattle.link.specs.Drain.{drain_parts, drain_answer, drain_calls, drained, walk, part_calls, counts_by, frames_of, more, counted_call, counted_all, settled_at};
 ghost use Rattle.link.specs.History.{polls, ticks, takes, step, run};
 ghost use Rattle.stations.specs.Answers.{FewFrames};
 ghost use Rattle.link.specs.DrainFacts.{WorkedDrain};
@@ -53,7 +53,7 @@ impl<L: Line> Link<L> {
     fn take_counted(&mut self, end: End, done: &mut Drained)
         requires { Few 99999000 done.old }
         ensures leaves { model L.Line.meaning self.new ≡ step (model L.Line.meaning self.old) (takes end) }
-        ensures counts { done.new ≡ counted (takes end) (frames_of (takes end) (model L.Line.meaning self.old)) done.old }
+        ensures counts { done.new ≡ counted_call (takes end) (frames_of (takes end) (model L.Line.meaning self.old)) done.old }
         ensures few { Grown 8 done.old done.new }
         ensures keeps { L.Line.beyond self.new.line ≡ L.Line.beyond self.old.line }
         ensures tidy { L.Line.tidy self.old.line → L.Line.tidy self.new.line }
@@ -86,7 +86,7 @@ impl<L: Line> Link<L> {
     fn tick_counted(&mut self, done: &mut Drained)
         requires { Few 99999000 done.old }
         ensures leaves { model L.Line.meaning self.new ≡ step (model L.Line.meaning self.old) ticks }
-        ensures counts { done.new ≡ counted ticks (frames_of ticks (model L.Line.meaning self.old)) done.old }
+        ensures counts { done.new ≡ counted_call ticks (frames_of ticks (model L.Line.meaning self.old)) done.old }
         ensures few { Grown 8 done.old done.new }
         ensures keeps { L.Line.beyond self.new.line ≡ L.Line.beyond self.old.line }
         ensures tidy { L.Line.tidy self.old.line → L.Line.tidy self.new.line }
