@@ -15,10 +15,10 @@ mod session;
 mod tests;
 mod words;
 
-use anyhow::anyhow;
 use serve::{serve, serve_nothing};
 use session::Session;
 use std::io;
+use std::process::ExitCode;
 
 // Answers every line of standard input, and tells whether all were understood.
 fn run(rt: &HostRuntime) -> io::Result<bool> {
@@ -34,10 +34,10 @@ fn run(rt: &HostRuntime) -> io::Result<bool> {
 }
 
 // Ends with status 1 where a line was not understood, or where reading or writing failed, which is reported.
-fn main(rt: HostRuntime) -> anyhow::Result<()> {
-    match run(&rt) {
-        Ok(true) => Ok(()),
-        Ok(false) => Err(anyhow!("a line was not understood")),
-        Err(error) => Err(anyhow!(error)),
+fn main(rt: HostRuntime) -> io::Result<ExitCode> {
+    if run(&rt)? {
+        Ok(ExitCode::SUCCESS)
+    } else {
+        Ok(ExitCode::FAILURE)
     }
 }

@@ -13,9 +13,9 @@ mod side;
 mod tally;
 mod watched;
 
-use anyhow::anyhow;
 use lines::{Line, OctetLine};
 use show::{show_exchange, show_ladder};
+use std::process::ExitCode;
 use std::{env, io};
 
 const K: usize = 8;
@@ -49,10 +49,10 @@ fn run(rt: &HostRuntime) -> io::Result<bool> {
 }
 
 // Ends with status 1 where the older module may not be pulled, or where writing failed, which is reported.
-fn main(rt: HostRuntime) -> anyhow::Result<()> {
-    match run(&rt) {
-        Ok(true) => Ok(()),
-        Ok(false) => Err(anyhow!("the older module may not be pulled")),
-        Err(error) => Err(anyhow!(error)),
+fn main(rt: HostRuntime) -> io::Result<ExitCode> {
+    if run(&rt)? {
+        Ok(ExitCode::SUCCESS)
+    } else {
+        Ok(ExitCode::FAILURE)
     }
 }

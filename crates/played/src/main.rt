@@ -8,10 +8,10 @@ mod frame_rows;
 mod line_rows;
 mod link_rows;
 
-use anyhow::anyhow;
 use both::over_both;
 use frame_rows::frame_row;
 use std::io;
+use std::process::ExitCode;
 
 fn row(n: u8) -> bool {
     match n {
@@ -33,10 +33,10 @@ fn run(rt: &HostRuntime) -> io::Result<bool> {
 }
 
 // Ends with status 1 where a row is bad, or where writing failed, which is reported.
-fn main(rt: HostRuntime) -> anyhow::Result<()> {
-    match run(&rt) {
-        Ok(true) => Ok(()),
-        Ok(false) => Err(anyhow!("a row is bad")),
-        Err(error) => Err(anyhow!(error)),
+fn main(rt: HostRuntime) -> io::Result<ExitCode> {
+    if run(&rt)? {
+        Ok(ExitCode::SUCCESS)
+    } else {
+        Ok(ExitCode::FAILURE)
     }
 }
