@@ -1,4 +1,4 @@
-// The task from beginning to end: an older and a newer module exchange their keys over an octet line that is struck again
+// An exchange from beginning to end: an older and a newer module exchange their keys over an octet line that is struck again
 // and again, until the older may be pulled. With the argument `ladder`: the first connection, frame by frame.
 #![tactic(auto)]
 

@@ -53,7 +53,7 @@ abbrev pub walk : List Part → Model → List Call
 walk [] l = []
 walk (p ∷ ps) l = part_calls p l ++ walk ps (run l (part_calls p l))
 
--- ---- what is counted_call
+-- ---- what is counted
 
 abbrev pub counts_by : Result Counts LinkRefusal → Counts
 counts_by (Ok c) = c

@@ -1,4 +1,4 @@
-// Tests of the link over a table line with K = 8, D = 2 and T = 5, and of the stations under it.
+// Tests of the link with K = 8, D = 2 and T = 5, over a table line and, of drains, over an octet line; and of the stations under it.
 #![tactic(auto)]
 
 #[cfg(test)]
