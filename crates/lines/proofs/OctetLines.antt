@@ -9,7 +9,7 @@ use Rattle.lines.specs.declared.ring.Ring.{Ring}
 use Rattle.lines.specs.declared.octets.OctetLine.{OctetLine}
 use Rattle.lines.specs.Entries.{Entry, Lists, with_way, at, Bounded}
 use Rattle.lines.specs.Octets.{cut, records, records_on, struck_records, FoundIn, places, Zeroed, octet_meaning}
-use Rattle.lines.specs.Packed.{age_in, burst, Neat, packed_entry}
+use Rattle.lines.specs.Packed.{age_in, struck_octets, Neat, packed_entry}
 use Rattle.lines.specs.Ring.{size, held, Blanked}
 use Rattle.lines.specs.Stored.{fit, lists_by, age, aged, turned}
 use Rattle.lines.proofs.Ages.{turn_one, turn_old}
@@ -115,6 +115,6 @@ at_getD (x ∷ rs) zero r e = cc
 at_getD (x ∷ rs) (suc place) r e = at_getD rs place r e
 
 -- the record that stood there, struck
-pub burst_at : (rs : List (List ℕ)) (place start mask : ℕ) (r s : List ℕ) → at rs place ≡ Some r → s ≡ burst start mask r
+pub burst_at : (rs : List (List ℕ)) (place start mask : ℕ) (r s : List ℕ) → at rs place ≡ Some r → s ≡ struck_octets start mask r
     → set rs place s ≡ struck_records true place start mask rs
-burst_at rs place start mask r s e h = ap (set rs place) (h ∙ ap (burst start mask) (sym (at_getD rs place r e)))
+burst_at rs place start mask r s e h = ap (set rs place) (h ∙ ap (struck_octets start mask) (sym (at_getD rs place r e)))

@@ -1,12 +1,16 @@
 -- A packed record: what packing writes, what reading it back finds, its age, and its frame once bits were turned over.
-use Rattle.std.proofs.Common.{◌≡◌, ℕ, zero, suc, ◌+◌, ◌*◌, ◌/◌, ◌%◌, ◌<◌, ◌≤◌, Bool, true, false, not, ◌&&◌, ltb, leb, List, [], ◌∷◌, ◌++◌, length, get_or, take, drop, set, replicate, is_ok, Some, Ok, Err, Result, sym, refl, ap, ◌∙◌, subst, ap₂, arith}
+use Rattle.std.proofs.Common.{◌≡◌, ℕ, zero, suc, ◌+◌, ◌*◌, ◌/◌, ◌%◌, ◌<◌, ◌≤◌, Bool, true, false, not, ◌&&◌, ltb, leb, List, [], ◌∷◌, ◌++◌, length, get_or, take, drop, set, replicate, is_ok, Some, cond, Ok, Err, Result, sym, refl, ap, ◌∙◌, subst, ap₂, arith}
 use Rattle.std.specs.List.{AllByRecursion}
+use Rattle.std.specs.Option.{option_map}
+use Rattle.std.specs.Result.{result_ok}
 use Rattle.std.proofs.lemmas.List.{length-drop, length-take, length-append, append_assoc, take-append-le, take_at, drop_at}
 use Rattle.std.proofs.ByRecursion.{All-push, All-drop}
 use Rattle.std.proofs.lemmas.Bool.{lt-ltb, le-ltb, ne_eqb, ltb-false}
 use Rattle.frames.specs.declared.way.Way.{Way}
 use Rattle.frames.specs.declared.refusal.FrameRefusal.{FrameRefusal}
 use Rattle.frames.specs.Parts.{Parts, parts, info_of}
+use Rattle.frames.specs.declared.frame_buf.FrameBuf.{FrameBuf}
+use Rattle.frames.specs.Blocks.{parts_in, owned, owns}
 use Rattle.frames.specs.Reader.{read_answer}
 use borrow.Rule.Slice.PartMut.{put_mid, post_of, put_same}
 use Rattle.frames.specs.Refusals.{refuse}
@@ -180,3 +184,13 @@ pack_err w p e room l h = go (admit_answer w p) refl
         let f : ltb room (length (octets_of c (info_of p))) ≡ false = le-ltb room (length (octets_of c (info_of p))) (omega (arith, z.whole, z.short)) in
         let k : Err e ≡ Ok (length (octets_of c (info_of p))) = h' ∙ ap (λ t. counted (refuse t NoSpace (Ok (octets_of c (info_of p))))) f in
         let z : ◌≡◌ {A = ℕ} 0 1 = cc in absurd (omega arith)
+
+-- a frame whose information is at most 64 octets is owned with the same parts
+pub own_told : (o : Result FrameBuf FrameRefusal) (p : Parts) → length (info_of p) ≤ 64 → owned o ≡ owns p
+    → option_map parts_in (result_ok o) ≡ Some p
+own_told (Ok f) p h e =
+    let g : Ok (parts_in f) ≡ Ok p = e ∙ ap (λ b. cond b (Err Long) (Ok p)) (le-ltb 64 (length (info_of p)) h) in
+    cc
+own_told (Err x) p h e =
+    let g : ◌≡◌ {A = Result Parts FrameRefusal} (Err x) (Ok p) = e ∙ ap (λ b. cond b (Err Long) (Ok p)) (le-ltb 64 (length (info_of p)) h) in
+    absurd (let z : ◌≡◌ {A = ℕ} 0 1 = cc in omega arith)

@@ -8,7 +8,7 @@ use Rattle.lines.specs.declared.octets.OctetLine.{OctetLine}
 use Rattle.lines.specs.Entries.{Lists, at}
 use Rattle.lines.specs.Ring.{size, held, behind, Blanked}
 use Rattle.lines.specs.Stored.{lists_by}
-use Rattle.lines.specs.Packed.{burst, Neat, packed_entry}
+use Rattle.lines.specs.Packed.{struck_octets, Neat, packed_entry}
 
 -- the first n records of 72 octets
 abbrev pub pieces : ℕ → List ℕ → List (List ℕ)
@@ -46,7 +46,7 @@ records_on Two t = records t.two
 
 -- a granted strike turns over the bits of the frame at a place that the mask names, and every other record stays
 abbrev pub struck_records : Bool → ℕ → ℕ → ℕ → List (List ℕ) → List (List ℕ)
-struck_records granted place start mask rs = cond granted (slice_set rs place (burst start mask (slice_index_or rs place []))) rs
+struck_records granted place start mask rs = cond granted (slice_set rs place (struck_octets start mask (slice_index_or rs place []))) rs
 
 -- a record that was found stands at the place
 abbrev pub FoundIn : List (List ℕ) → ℕ → Option (List ℕ) → Type 0

@@ -16,8 +16,8 @@ abbrev pub frame_in : List ℕ → List ℕ
 frame_in r = take (slice_index r 0) (drop 3 r)
 
 -- a record whose frame a burst has struck: its length, its age and the octets behind the frame stay
-abbrev pub burst : ℕ → ℕ → List ℕ → List ℕ
-burst start mask r = take 3 r ++ (strike_leaves start mask (frame_in r) ++ drop (slice_index r 0) (drop 3 r))
+abbrev pub struck_octets : ℕ → ℕ → List ℕ → List ℕ
+struck_octets start mask r = take 3 r ++ (strike_leaves start mask (frame_in r) ++ drop (slice_index r 0) (drop 3 r))
 
 -- the octets behind the frame are zero
 abbrev pub Neat : List ℕ → Type 0

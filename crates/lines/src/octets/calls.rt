@@ -11,7 +11,7 @@ ghost use Rattle.lines.specs.Octets.{records, records_on, struck_records, FoundI
 
 use super::{OctetLine, packed, store};
 use crate::{Line, LineRefusal, Ring, measures};
-use frames::{FrameBuf, Kind, Way};
+use frames::{Burst, FrameBuf, Parts, Way};
 
 // The oldest record's turn in a tick.
 fn turn(ring: &mut Ring<'_, u8>, lifetime: u16)
@@ -155,18 +155,8 @@ impl Line for OctetLine<'_, '_> {
 
     ghost beyond = { octet_beyond };
 
-    ghost tidy = { OctetTidy };
-
-    fn put(
-        &mut self,
-        way: Way,
-        kind: Kind,
-        ns: u8,
-        nr: u8,
-        b: u8,
-        info: &[u8],
-    ) -> Result<(), LineRefusal> {
-        let new = packed::pack(way, kind, ns, nr, b, info)?;
+    fn put(&mut self, way: Way, frame: Parts<'_>) -> Result<(), LineRefusal> {
+        let new = packed::pack(way, frame)?;
         if self.push(way, &new) {
             Ok(())
         } else {
@@ -185,17 +175,16 @@ impl Line for OctetLine<'_, '_> {
     }
 
     // Besides what every line does, it turns over frame bit `start + i` for each bit `i` of the mask that is 1.
-    fn strike(&mut self, way: Way, place: usize, start: usize, mask: u16) -> Result<(), LineRefusal>
-        ensures answers { result ≡ strike_answer (octet_meaning self.old) way place start mask }
-        ensures leaves { octet_meaning self.new ≡ strike_leaves (octet_meaning self.old) way place start mask }
+    fn strike(&mut self, way: Way, place: usize, burst: Burst) -> Result<(), LineRefusal>
+        ensures answers { result ≡ strike_answer (octet_meaning self.old) way place burst.start burst.mask }
+        ensures leaves { octet_meaning self.new ≡ strike_leaves (octet_meaning self.old) way place burst.start burst.mask }
         ensures keeps { octet_beyond self.new ≡ octet_beyond self.old }
-        ensures tidy { OctetTidy self.old → OctetTidy self.new }
-        ensures flips { records_on way self.new ≡ struck_records (is_ok result) place start mask (records_on way self.old) }
+        ensures flips { records_on way self.new ≡ struck_records (is_ok result) place burst.start burst.mask (records_on way self.old) }
     {
         let Some(mut target) = self.get(way, place) else {
             return Err(LineRefusal::NoEntry);
         };
-        packed::hit(way, &mut target, start, mask)?;
+        packed::hit(way, &mut target, burst)?;
         self.replace(way, place, &target);
         Ok(())
     }

@@ -2,67 +2,27 @@
 ghost use Rattle.std.specs.Prelude.{◌≡◌, ◌≤◌, length, is_ok, if◌then◌else◌, Some};
 ghost use Rattle.std.specs.Option.{option_map};
 ghost use Rattle.frames.specs.declared.way.Way.{Way as Ways};
-ghost use Rattle.frames.specs.Parts.{parts, info_of, parts_of};
+ghost use Rattle.frames.specs.Parts.{given};
 ghost use Rattle.frames.specs.Blocks.{parts_in};
 ghost use Rattle.lines.specs.Line.{strike_by, hit};
 ghost use Rattle.lines.specs.Stored.{aged};
-ghost use Rattle.lines.specs.Packed.{age_in, burst, packed_entry, entry_told, Neat, Packs};
+ghost use Rattle.lines.specs.Packed.{age_in, struck_octets, packed_entry, entry_told, Neat, Packs};
 
 use crate::LineRefusal;
-use frames::{Block, Frame, FrameBuf, FrameRefusal, Kind, Way, read, strike, write};
+use frames::{Burst, FrameBuf, FrameRefusal, Parts, Way, read, strike, write};
 
 // The record of a frame of age 0, or why the frame cannot be written.
-pub(crate) fn pack(
-    way: Way,
-    kind: Kind,
-    ns: u8,
-    nr: u8,
-    b: u8,
-    info: &[u8],
-) -> Result<[u8; 72], FrameRefusal>
-    ensures { Packs way (parts kind ns nr b info.now) result }
+pub(crate) fn pack(way: Way, frame: Parts<'_>) -> Result<[u8; 72], FrameRefusal>
+    ensures { Packs way (given frame.entry) result }
 {
     let mut record = [0; 72];
-    match write(way, kind, ns, nr, b, info, &mut record[3..71]) {
+    match write(way, frame, &mut record[3..71]) {
         Ok(n) => {
             record[0] = n as u8;
             Ok(record)
         }
         Err(e) => Err(e),
     }
-}
-
-// A frame with memory of its own, if its information is at most 64 octets.
-fn own(frame: Frame<'_>) -> Option<FrameBuf>
-    ensures { length (info_of (parts_of frame.entry)) ≤ 64 → option_map parts_in result ≡ Some (parts_of frame.entry) }
-{
-    let (kind, nr, b) = match frame {
-        Frame::I { ns, nr, b, info } => {
-            let Some(block) = Block::of(info) else {
-                return None;
-            };
-            return Some(FrameBuf {
-                kind: Kind::I,
-                ns,
-                nr,
-                b,
-                block,
-            });
-        }
-        Frame::Rr { nr, b } => (Kind::Rr, nr, b),
-        Frame::Rnr { nr, b } => (Kind::Rnr, nr, b),
-        Frame::Sarm => (Kind::Sarm, 0, 0),
-        Frame::Disc => (Kind::Disc, 0, 0),
-        Frame::Ua => (Kind::Ua, 0, 0),
-        Frame::Dm => (Kind::Dm, 0, 0),
-    };
-    Some(FrameBuf {
-        kind,
-        ns: 0,
-        nr,
-        b,
-        block: Block::empty(),
-    })
 }
 
 // The frame of a record, or none where it is struck.
@@ -76,7 +36,7 @@ pub(crate) fn unpack(way: Way, record: &[u8; 72]) -> Option<FrameBuf>
     let Ok(frame) = read(way, &record[3..3 + n]) else {
         return None;
     };
-    own(frame)
+    FrameBuf::try_from(Parts::from(frame)).ok()
 }
 
 // The age of a record.
@@ -96,16 +56,11 @@ pub(crate) fn set_age(record: &mut [u8; 72], age: u16)
 }
 
 // Turns over the bits of a record's frame that a burst names.
-pub(crate) fn hit(
-    way: Way,
-    record: &mut [u8; 72],
-    start: usize,
-    mask: u16,
-) -> Result<(), LineRefusal>
-    ensures answers { result ≡ strike_by (Some (packed_entry way «record».old)) start mask }
+pub(crate) fn hit(way: Way, record: &mut [u8; 72], burst: Burst) -> Result<(), LineRefusal>
+    ensures answers { result ≡ strike_by (Some (packed_entry way «record».old)) burst.start burst.mask }
     ensures leaves { packed_entry way «record».new ≡ (if is_ok result then hit (packed_entry way «record».old) else packed_entry way «record».old) }
     ensures neat { Neat «record».old → Neat «record».new }
-    ensures flips { «record».new ≡ (if is_ok result then burst start mask «record».old else «record».old) }
+    ensures flips { «record».new ≡ (if is_ok result then struck_octets burst.start burst.mask «record».old else «record».old) }
 {
     let n = record[0] as usize;
     if n > 68 {
@@ -114,10 +69,10 @@ pub(crate) fn hit(
     let Ok(_) = read(way, &record[3..3 + n]) else {
         return Err(LineRefusal::Struck);
     };
-    if mask == 0 {
+    if burst.mask == 0 {
         return Err(LineRefusal::NoMask);
     }
-    if strike(&mut record[3..3 + n], start, mask) {
+    if strike(&mut record[3..3 + n], burst) {
         Ok(())
     } else {
         Err(LineRefusal::OffFrame)

@@ -12,7 +12,7 @@ ghost use Rattle.lines.specs.declared.record.Record.{Record as Records};
 
 use super::TableLine;
 use crate::{Line, LineRefusal, Record, Ring, measures};
-use frames::{Block, FrameBuf, FrameRefusal, Kind, Way, admit};
+use frames::{Burst, FrameBuf, Parts, Way, admit};
 
 // The oldest entry's turn in a tick.
 fn turn(ring: &mut Ring<'_, Record>, lifetime: u16)
@@ -148,32 +148,12 @@ impl Line for TableLine<'_, '_> {
 
     ghost beyond = { table_beyond };
 
-    ghost tidy = { TableTidy };
-
-    fn put(
-        &mut self,
-        way: Way,
-        kind: Kind,
-        ns: u8,
-        nr: u8,
-        b: u8,
-        info: &[u8],
-    ) -> Result<(), LineRefusal> {
-        let _control = admit(way, kind, ns, nr, b, info)?;
-        let Some(block) = Block::of(info) else {
-            return Err(LineRefusal::Frame(FrameRefusal::Long));
-        };
-        let frame = FrameBuf {
-            kind,
-            ns,
-            nr,
-            b,
-            block,
-        };
+    fn put(&mut self, way: Way, frame: Parts<'_>) -> Result<(), LineRefusal> {
+        let _control = admit(way, frame)?;
         let new = Record {
             age: 0,
             struck: false,
-            frame,
+            frame: FrameBuf::try_from(frame)?,
         };
         if self.push(way, new) {
             Ok(())
@@ -193,24 +173,18 @@ impl Line for TableLine<'_, '_> {
         }
     }
 
-    fn strike(
-        &mut self,
-        way: Way,
-        place: usize,
-        start: usize,
-        mask: u16,
-    ) -> Result<(), LineRefusal> {
+    fn strike(&mut self, way: Way, place: usize, burst: Burst) -> Result<(), LineRefusal> {
         let Some(mut target) = self.get(way, place) else {
             return Err(LineRefusal::NoEntry);
         };
         if target.struck {
             return Err(LineRefusal::Struck);
         }
-        if mask == 0 {
+        if burst.mask == 0 {
             return Err(LineRefusal::NoMask);
         }
         let bits = 8 * (4 + target.frame.block.len());
-        if start > bits - 16 {
+        if burst.start > bits - 16 {
             return Err(LineRefusal::OffFrame);
         }
         target.struck = true;

@@ -12,21 +12,21 @@ use Rattle.lines.proofs.octets.packed.hit.Goals as goal
 pub returns-then-n-gt68 : goal.returns-then-n-gt68
 returns-then-n-gt68 c =
     let e = too_long c.args.way c.args.record.now c.told-record c.if-n-gt68.true in
-    record { answers = sym (ap (λ x. strike_by (Some x) c.args.start c.args.mask) e); leaves = refl; neat = λ h. h; flips = refl }
+    record { answers = sym (ap (λ x. strike_by (Some x) c.args.burst.start c.args.burst.mask) e); leaves = refl; neat = λ h. h; flips = refl }
 
 pub returns-in_default : goal.returns-in_default
 returns-in_default c =
     let r = c.args.record.now in
     let e = unread c.args.way r (3 + get_or r 0 0 - 3) (omega arith) _ c.in_default.ensures.answers in
-    record { answers = sym (ap (λ x. strike_by (Some x) c.args.start c.args.mask) e); leaves = refl; neat = λ h. h; flips = refl }
+    record { answers = sym (ap (λ x. strike_by (Some x) c.args.burst.start c.args.burst.mask) e); leaves = refl; neat = λ h. h; flips = refl }
 
-pub returns-then-mask-eq0 : goal.returns-then-mask-eq0
-returns-then-mask-eq0 c =
+pub returns-then-burst-eq0 : goal.returns-then-burst-eq0
+returns-then-burst-eq0 c =
     let r = c.args.record.now in
     let p = parts_of c.in-Ok.field-0 in
     let f = is_read c.args.way r (3 + get_or r 0 0 - 3) (omega arith) p c.in-Ok.ensures.answers in
     record {
-      answers = sym (ap (λ x. strike_by (Some x) c.args.start c.args.mask) f ∙ ap (λ m. burst_by m (leb (c.args.start + 16) (bits p))) (eq-eqb c.args.mask 0 c.if-mask-eq0.true));
+      answers = sym (ap (λ x. strike_by (Some x) c.args.burst.start c.args.burst.mask) f ∙ ap (λ m. burst_by m (leb (c.args.burst.start + 16) (bits p))) (eq-eqb c.args.burst.mask 0 c.if-burst-eq0.true));
       leaves = refl;
       neat = λ h. h;
       flips = refl;
@@ -42,16 +42,16 @@ returns-then-strike c =
     let a = c.in-Ok.ensures in
     let f = is_read w r m me p a.answers in
     let z = sized w p (take m (drop 3 r)) (a.writes_back p refl) in
-    let lo : 0 < c.args.mask = omega (arith, c.if-mask-eq0.false) in
+    let lo : 0 < c.args.burst.mask = omega (arith, c.if-burst-eq0.false) in
     let ys = c.strike.new.octets in
     let l : length ys ≡ m = omega (arith, c.strike.auto.octets, length-take m (drop 3 r), length-drop 3 r, c.told-record, c.if-n-gt68.false) in
     record {
-      answers = burst_told (age_in r) p c.args.start c.args.mask lo _ (length (take m (drop 3 r))) true f z.whole (sym c.if-strike.ensures.answers);
+      answers = burst_told (age_in r) p c.args.burst.start c.args.burst.mask lo _ (length (take m (drop 3 r))) true f z.whole (sym c.if-strike.ensures.answers);
       leaves = hit_entry w m r ys p Check c.told-record me l f (c.strike.ensures.seen w p (sym a.answers) c.if-strike.true);
       neat = hit_neat w m r ys c.told-record me l;
       flips =
           ap (λ zs. take 3 r ++ (zs ++ drop m (drop 3 r))) c.strike.ensures.leaves
-          ∙ ap (λ k. take 3 r ++ (strike_leaves c.args.start c.args.mask (take k (drop 3 r)) ++ drop k (drop 3 r))) me;
+          ∙ ap (λ k. take 3 r ++ (strike_leaves c.args.burst.start c.args.burst.mask (take k (drop 3 r)) ++ drop k (drop 3 r))) me;
     }
 
 pub returns-else-strike : goal.returns-else-strike
@@ -64,12 +64,12 @@ returns-else-strike c =
     let a = c.in-Ok.ensures in
     let f = is_read w r m me p a.answers in
     let z = sized w p (take m (drop 3 r)) (a.writes_back p refl) in
-    let lo : 0 < c.args.mask = omega (arith, c.if-mask-eq0.false) in
+    let lo : 0 < c.args.burst.mask = omega (arith, c.if-burst-eq0.false) in
     let ys = c.strike.new.octets in
     let no = sym c.if-strike.ensures.answers in
     let same = hit_none w m r ys (c.strike.ensures.leaves ∙ cond-false _ _ _ no) in
     record {
-      answers = burst_told (age_in r) p c.args.start c.args.mask lo _ (length (take m (drop 3 r))) false f z.whole no;
+      answers = burst_told (age_in r) p c.args.burst.start c.args.burst.mask lo _ (length (take m (drop 3 r))) false f z.whole no;
       leaves = ap (packed_entry w) same;
       neat = subst Neat (sym same);
       flips = same;

@@ -1,7 +1,9 @@
 use Rattle.std.proofs.Common.{◌+◌, ◌-◌, get_or, sym, refl, ap, ◌∙◌, arith}
 use Rattle.frames.specs.Parts.{parts_of}
+use Rattle.frames.specs.Blocks.{parts_in, owns}
+use Rattle.std.specs.Option.{option_map}
 use Rattle.lines.specs.Packed.{age_in, entry_told}
-use Rattle.lines.proofs.Packs.{sized, too_long, unread, is_read}
+use Rattle.lines.proofs.Packs.{sized, too_long, unread, is_read, own_told}
 use Rattle.lines.proofs.octets.packed.unpack.Goals as goal
 
 pub returns-then-n-gt68 : goal.returns-then-n-gt68
@@ -17,4 +19,4 @@ returns c =
     let a = c.in-Ok.ensures in
     let z = sized c.args.way p _ (a.writes_back p refl) in
     is_read c.args.way r (3 + get_or r 0 0 - 3) (omega arith) p a.answers
-    ∙ ap (entry_told (age_in r)) (sym (c.own.ensures z.short))
+    ∙ ap (entry_told (age_in r)) (sym (ap (option_map parts_in) c.ok.ensures.value ∙ own_told _ _ z.short (c.try_from.ensures ∙ ap owns c.from.ensures)))

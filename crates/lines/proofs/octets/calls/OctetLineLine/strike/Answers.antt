@@ -14,12 +14,11 @@ returns c =
     let s = sym c.in-Some.ensures.gives in
     let h = c.in_ok-hit.ensures in
     record {
-      answers = strike_granted l w c.args.place c.args.start c.args.mask e s h.answers;
+      answers = strike_granted l w c.args.place c.args.burst.start c.args.burst.mask e s h.answers;
       leaves = c.replace.ensures.leaves ∙ ap (λ x. with_way w (set (on w l) c.args.place x) l) h.leaves
-          ∙ strike_hits l w c.args.place c.args.start c.args.mask e s h.answers;
+          ∙ strike_hits l w c.args.place c.args.burst.start c.args.burst.mask e s h.answers;
       keeps = c.replace.ensures.keeps;
-      tidy = λ z. c.replace.ensures.tidy z (h.neat (c.in-Some.ensures.neat z));
       flips =
           c.replace.ensures.holds
-          ∙ burst_at (records_on w c.args.self.now) c.args.place c.args.start c.args.mask _ _ c.in-Some.ensures.found h.flips;
+          ∙ burst_at (records_on w c.args.self.now) c.args.place c.args.burst.start c.args.burst.mask _ _ c.in-Some.ensures.found h.flips;
     }

@@ -5,7 +5,7 @@ use Rattle.lines.specs.Octets.{records, places}
 use Rattle.lines.specs.Packed.{packed_entry}
 use Rattle.lines.specs.Stored.{lists_by}
 use Rattle.lines.proofs.OctetLines.{places_kept, plain, whole_one, whole_two}
-use Rattle.lines.proofs.Stores.{by_false, ticked, pair_by, both_by}
+use Rattle.lines.proofs.Stores.{by_false, ticked, pair_by}
 use Rattle.lines.proofs.octets.calls.OctetLineLine.tick.Goals as goal
 
 pub age-requires : goal.age-requires
@@ -26,10 +26,9 @@ returns-then-sound c =
           ∙ ap₂ (λ n zs. lists_by n (record { one = older t.lifetime (map (packed_entry One) (records t.one)); two = zs; capacity = places t.one; lifetime = t.lifetime })) (places_kept t.two s b.even b.keeps.slots) (b.holds Two)
           ∙ ticked (places t.two) (plain t);
       keeps = pair_by a.keeps.rest b.keeps.rest;
-      tidy = both_by a.zeroed b.zeroed;
     }
 
 pub returns-else-sound : goal.returns-else-sound
 returns-else-sound c =
     let e = by_false _ (plain c.args.self.now) (sym c.sound.ensures ∙ c.if-sound.false) in
-    record { leaves = e ∙ sym (ap tick_leaves e); keeps = refl; tidy = λ h. h }
+    record { leaves = e ∙ sym (ap tick_leaves e); keeps = refl }

@@ -11,11 +11,10 @@ returns c =
     let r = c.in-Some.target in
     let l = table_meaning c.args.self.now in
     let s = sym c.in-Some.ensures ∙ ap Some (record_frame r c.if-target.false) in
-    let in_frame : c.args.start + 16 ≤ bits (parts_in r.frame) = omega (arith, c.len.ensures, c.if-start-bits.false) in
-    let g = burst_within r.age (parts_in r.frame) c.args.start c.args.mask (omega (arith, c.if-mask-eq0.false)) in_frame in
+    let in_frame : c.args.burst.start + 16 ≤ bits (parts_in r.frame) = omega (arith, c.len.ensures, c.if-burst-bits.false) in
+    let g = burst_within r.age (parts_in r.frame) c.args.burst.start c.args.burst.mask (omega (arith, c.if-burst-eq0.false)) in_frame in
     record {
-      answers = strike_granted l c.args.way c.args.place c.args.start c.args.mask _ s g;
-      leaves = c.replace.ensures.leaves ∙ strike_hits l c.args.way c.args.place c.args.start c.args.mask _ s g;
+      answers = strike_granted l c.args.way c.args.place c.args.burst.start c.args.burst.mask _ s g;
+      leaves = c.replace.ensures.leaves ∙ strike_hits l c.args.way c.args.place c.args.burst.start c.args.burst.mask _ s g;
       keeps = c.replace.ensures.keeps;
-      tidy = c.replace.ensures.tidy;
     }

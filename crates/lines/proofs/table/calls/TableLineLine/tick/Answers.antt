@@ -3,7 +3,7 @@ use Rattle.lines.specs.Line.{older}
 use Rattle.lines.specs.Record.{entry_of}
 use Rattle.lines.specs.Ring.{size, held}
 use Rattle.lines.specs.Stored.{lists_by}
-use Rattle.lines.proofs.Stores.{ticked, pair_by, both_by}
+use Rattle.lines.proofs.Stores.{ticked, pair_by}
 use Rattle.lines.proofs.Tables.{plain}
 use Rattle.lines.proofs.table.calls.TableLineLine.tick.Goals as goal
 
@@ -17,5 +17,4 @@ returns c =
           ∙ ap₂ (λ n zs. lists_by n (record { one = older t.lifetime (map entry_of (held t.one)); two = zs; capacity = size t.one; lifetime = t.lifetime })) b.keeps.slots b.holds
           ∙ ticked (size t.two) (plain t);
       keeps = pair_by a.keeps.rest b.keeps.rest;
-      tidy = both_by a.keeps.blanks b.keeps.blanks;
     }
