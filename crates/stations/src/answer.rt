@@ -1,10 +1,31 @@
 // What a station answers.
+ghost use Rattle.std.specs.Prelude.{◌≡◌, ◌+◌, ◌^◌, ◌<◌};
+ghost use Rattle.stations.specs.Counts.{all_of};
+
+use std::ops::Add;
+
+mod calls;
 
 // How many frames were put on the line, and how many found no room there and are lost.
-#[derive(Clone, Copy, PartialEq, Eq, Debug)]
+#[derive(Clone, Copy, PartialEq, Eq, Debug, Default)]
 pub struct Counts {
     pub put: usize,
     pub lost: usize,
+}
+
+impl Add for Counts {
+    type Output = Counts;
+
+    ghost can_add = { λ c d. (c.put + d.put < 2 ^ 64) × (c.lost + d.lost < 2 ^ 64) };
+
+    ghost add_gives = { λ c d s. s ≡ all_of c d };
+
+    fn add(self, more: Counts) -> Counts {
+        Counts {
+            put: self.put + more.put,
+            lost: self.lost + more.lost,
+        }
+    }
 }
 
 // What the number rule found: the blocks acknowledged to the station, and whether it took the frame's block in.

@@ -1,5 +1,5 @@
 use Rattle.std.proofs.Common.{◌%◌, arith}
-use Rattle.stations.specs.Blocks.{in_window}
+use Rattle.stations.specs.Blocks.{in_row}
 use Rattle.stations.proofs.Numbers.{left_over}
 use Rattle.stations.proofs.station.Station.acknowledge.Goals as goal
 
@@ -11,5 +11,5 @@ invariant_of-self c =
       va_small = omega arith;
       vr_small = s.vr_small;
       outstanding =
-          left_over (in_window s.window) _ s.vs s.va (c.args.nr % 8) c.shed.ensures s.outstanding s.vs_small s.va_small (omega arith) (omega arith);
+          left_over (in_row s.window) _ s.vs s.va (c.args.nr % 8) c.shed.ensures s.outstanding s.vs_small s.va_small (omega arith) (omega arith);
     }
