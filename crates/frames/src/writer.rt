@@ -34,8 +34,7 @@ fn lay(control: u8, info: &[u8], out: &mut [u8])
     out[1] = control;
     out[2..body].copy_from_slice(info);
     let sequence = check_sequence(&out[0..body]);
-    out[body] = (sequence % 256) as u8;
-    out[body + 1] = (sequence / 256) as u8;
+    out[body..body + 2].copy_from_slice(&sequence.to_le_bytes());
 }
 
 // Writes a frame and answers how many octets it has. A refusal leaves `out` as it was.
