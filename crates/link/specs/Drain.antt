@@ -74,6 +74,10 @@ frames_of (takes e) l = taken_counts (asked l (λ g x. takes_answer g e x))
 frames_of (fetches e) l = none_put
 frames_of (strikes w place start mask) l = none_put
 
+-- all that is counted
+abbrev pub total : Drained → ℕ
+total d = d.counts.put + d.counts.lost + d.ticks + d.takes
+
 abbrev pub no_calls : Drained
 no_calls = record { counts = none_put; ticks = 0; takes = 0; settled = false }
 

@@ -1,4 +1,4 @@
-// A link over any line: the line, T, and the two stations. A link that its check refused keeps the refusal.
+// A link over any line: the line, T, what its check answered, and the two stations.
 use crate::LinkRefusal;
 use lines::Line;
 use stations::{Primary, Secondary};
@@ -12,7 +12,7 @@ mod questions;
 pub struct Link<L: Line> {
     line: L,
     limit: usize,
-    fault: Option<LinkRefusal>,
+    checked: Result<(), LinkRefusal>, // a link that its check refused answers that before all else
     primary: Primary,
     secondary: Secondary,
 }
