@@ -1,5 +1,4 @@
 pub mod BlockRows
 pub mod Delivered
 pub mod Numbers
-pub mod Admitted
 pub mod Resends

@@ -1,6 +1,6 @@
 -- Sending again, block by block.
 use Rattle.std.proofs.Common.{◌≡◌, ℕ, zero, suc, ◌+◌, ◌-◌, ◌%◌, ◌<◌, ◌≤◌, Bool, true, false, ltb, List, [], ◌∷◌, length, get_or, drop, sym, refl, ap, ◌∙◌, ap₂, arith}
-use Rattle.std.proofs.lemmas.List.{drop_more, drop_all, length_push}
+use Rattle.std.proofs.lemmas.List.{drop_more, length_push}
 use Rattle.frames.specs.declared.way.Way.{Way}
 use Rattle.frames.specs.declared.way.Way.TheVariants.{One, Two}
 use Rattle.frames.specs.Parts.{Parts}
@@ -11,10 +11,6 @@ use Rattle.stations.specs.Station.{Block, Station}
 use Rattle.stations.specs.Puts.{put, put_by, inform, again_from, again_by, again, tries_by, again_tries, counts}
 
 -- ---- one way of a line
-
-pub same_way : (w : Way) (l : Lists) → l ≡ with_way w (on w l) l
-same_way One l = refl
-same_way Two l = refl
 
 pub on_with : (w : Way) (es : List Entry) (l : Lists) → on w (with_way w es l) ≡ es
 on_with One es l = refl
@@ -74,8 +70,11 @@ counts_more m n t es fs gs p q e =
     let a : length fs - length es + (length gs - length fs) ≡ length gs - length es = omega (arith, p.least, q.least) in
     let b : m - (length fs - length es) + (n - (length gs - length fs)) ≡ t - (length gs - length es) =
     omega (arith, e, p.least, p.most, q.least, q.most) in
-    ap₂ all_of (counts_grown m es fs p) (counts_grown n fs gs q) ∙ ap₂ (λ x y. record { put = x; lost = y }) a b
-    ∙ sym (counts_grown t es gs (record { least = omega (arith, p.least, q.least); most = omega (arith, e, p.most, q.most) }))
+    let some : all_of (counts m es fs) (counts n fs gs) ≡ all_of (grown m es fs) (grown n fs gs) =
+    ap₂ all_of (counts_grown m es fs p) (counts_grown n fs gs q) in
+    let all : all_of (grown m es fs) (grown n fs gs) ≡ grown t es gs = ap₂ (λ x y. record { put = x; lost = y }) a b in
+    let g : Grows t es gs = record { least = omega (arith, p.least, q.least); most = omega (arith, e, p.most, q.most) } in
+    some ∙ all ∙ sym (counts_grown t es gs g)
 
 -- ---- block by block
 
@@ -85,9 +84,6 @@ module _ (k : ℕ) (x : Station) (zs : List Block) where
   again_more ns i es fs h e =
       ap (again_from k x ((ns + 1) % 8) (drop (i + 1) zs)) e
       ∙ sym (ap (λ ys. again_from k x ns ys es) (drop_more zs i [] h))
-
-  pub again_done : (ns i : ℕ) (es : List Entry) → length zs ≤ i → again_from k x ns (drop i zs) es ≡ es
-  again_done ns i es h = ap (λ ys. again_from k x ns ys es) (drop_all i zs h)
 
 -- a line that differs from another on one way alone, and differs there again
 pub record OnlyOn (w : Way) (l m n : Lists) (es : List Entry) : Type 0 where

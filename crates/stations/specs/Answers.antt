@@ -3,6 +3,7 @@ use Rattle.std.specs.Prelude.{ℕ, Bool, true, false, cond, List, [], ◌∷◌,
 use Rattle.stations.specs.declared.answer.Counts.{Counts}
 use Rattle.stations.specs.declared.answer.Heard.{Heard as Answer}
 use Rattle.stations.specs.declared.answer.Taken.{Taken}
+use Rattle.stations.specs.declared.number.Number.{Number}
 use Rattle.stations.specs.declared.refusal.StationRefusal.{StationRefusal}
 use Rattle.stations.specs.declared.refusal.StationRefusal.TheVariants.{Numbering}
 use Rattle.stations.specs.Station.{Block, Station, passed, allowed, acknowledge, sent}
@@ -41,6 +42,10 @@ abbrev pub heard_with : Answer → Counts → Taken
 heard_with h c = record { counts = c; acknowledged = h.acknowledged; taken = h.taken; passed = false }
 
 -- a send that is granted answers the N(S) of its block
+abbrev pub accepted : Result Number StationRefusal → Result ℕ StationRefusal
+accepted (Err e) = Err e
+accepted (Ok n) = Ok n.value
+
 abbrev pub accept_by : Option StationRefusal → Station → Result ℕ StationRefusal
 accept_by (Some e) x = Err e
 accept_by None x = Ok x.vs

@@ -18,7 +18,7 @@ is_busy Busy = true
 
 abbrev pub station_of : Code → Station
 station_of c =
-    record { vs = c.vs; va = c.va; vr = c.vr; window = in_row c.window; busy = is_busy c.far; waiting = in_row c.queue }
+    record { vs = c.vs.value; va = c.va.value; vr = c.vr.value; window = in_row c.window; busy = is_busy c.far; waiting = in_row c.queue }
 
 -- the primary: its mode, its timer and its station
 pub record PrimaryView : Type 0 where

@@ -3,6 +3,7 @@
 
 mod answer;
 mod mode;
+mod number;
 mod primary;
 mod puts;
 mod refusal;

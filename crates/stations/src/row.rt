@@ -5,6 +5,7 @@ use frames::Block;
 
 mod calls;
 
+// The blocks stand in place, since a station allocates nothing: the first `count` of the seven.
 // No `impl Model`: what makes a row `Copy` gives its fields back from what is seen, and the octets behind a block's
 // length are not seen.
 #[derive(Clone, Copy)]

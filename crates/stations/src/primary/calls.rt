@@ -43,6 +43,9 @@ impl Primary {
         self.timer // off where no request is waiting
     }
 
+    // `outstanding`, `waiting` and `fetch` hand on to the station, as at the secondary: a trait for both would be longer
+    // than their one line each.
+
     // How many blocks are sent and not acknowledged.
     pub fn outstanding(&self) -> usize
         ensures { result ≡ outstanding (primary_of self.now).station }

@@ -1,11 +1,12 @@
-ghost use Rattle.std.specs.Prelude.{◌≡◌, ◌≤◌, true, length, IfOk};
+ghost use Rattle.std.specs.Prelude.{◌≡◌, true, length};
 ghost use Rattle.frames.specs.Blocks.{octets_in};
 ghost use Rattle.stations.specs.Station.{fresh, reset, outstanding, own_status, send_check, fetch_answer, fetch_leaves};
 ghost use Rattle.stations.specs.Rule.{hear_i, hear_s};
-ghost use Rattle.stations.specs.Answers.{passing, after_number, rule_answer, accept_by, accept_leaves, fetch_length, fetch_writes};
+ghost use Rattle.stations.specs.Answers.{passing, after_number, rule_answer, accepted, accept_by, accept_leaves, fetch_length, fetch_writes};
 ghost use Rattle.stations.specs.Views.{station_of, is_busy};
 
 use super::{FarStatus, Station};
+use crate::number::Number;
 use crate::{Heard, Queue, StationRefusal, Window};
 use frames::{FrameBuf, Kind};
 
@@ -15,9 +16,9 @@ impl Station {
         ensures { station_of result ≡ fresh }
     {
         Station {
-            vs: 0,
-            va: 0,
-            vr: 0,
+            vs: Number::of(0),
+            va: Number::of(0),
+            vr: Number::of(0),
             far: FarStatus::Ready,
             window: Window::new(),
             queue: Queue::new(),
@@ -28,18 +29,16 @@ impl Station {
     pub(crate) fn reset(&mut self)
         ensures { station_of self.new ≡ reset (station_of self.old) }
     {
-        self.window = Window::new();
-        self.vs = 0;
-        self.va = 0;
-        self.vr = 0;
-        self.far = FarStatus::Ready;
+        let waiting = self.queue;
+        *self = Station::new();
+        self.queue = waiting;
     }
 
     // How many blocks are sent and not acknowledged.
     pub(crate) fn outstanding(&self) -> usize
         ensures { result ≡ outstanding (station_of self.now) }
     {
-        ((self.vs + (8 - self.va)) % 8) as usize
+        self.vs.since(self.va)
     }
 
     // How many blocks wait to be fetched.
@@ -65,12 +64,13 @@ impl Station {
         ensures answers { result ≡ passing (station_of self.old) nr }
         ensures leaves { station_of self.new ≡ after_number (station_of self.old) nr }
     {
-        let passed = ((nr % 8 + (8 - self.va)) % 8) as usize;
+        let nr = Number::of(nr);
+        let passed = nr.since(self.va);
         if passed > self.outstanding() {
             return Err(StationRefusal::Numbering);
         }
         self.window.shed(passed);
-        self.va = nr % 8;
+        self.va = nr;
         Ok(passed)
     }
 
@@ -80,9 +80,9 @@ impl Station {
         ensures leaves { station_of self.new ≡ (hear_i (station_of self.old) frame.now.ns frame.now.nr (octets_in frame.now.block)).station }
     {
         let acknowledged = self.acknowledge(frame.nr)?;
-        let taken = frame.ns == self.vr && self.queue.push(frame.block.octets());
+        let taken = frame.ns == self.vr.get() && self.queue.push(frame.block.octets());
         if taken {
-            self.vr = (self.vr + 1) % 8;
+            self.vr = self.vr.next();
         }
         Ok(Heard {
             acknowledged,
@@ -105,10 +105,9 @@ impl Station {
 
     // A block enters the window of an open end, unless it is long, 7 are outstanding or the far end is busy. It
     // answers the block's N(S).
-    pub(super) fn accept(&mut self, octets: &[u8]) -> Result<u8, StationRefusal>
-        ensures answers { result ≡ accept_by (send_check true (station_of self.old) octets.now) (station_of self.old) }
+    pub(super) fn accept(&mut self, octets: &[u8]) -> Result<Number, StationRefusal>
+        ensures answers { accepted result ≡ accept_by (send_check true (station_of self.old) octets.now) (station_of self.old) }
         ensures leaves { station_of self.new ≡ accept_leaves (send_check true (station_of self.old) octets.now) (station_of self.old) octets.now }
-        ensures small { IfOk result (λ ns. (ns ≤ 7) × (length octets.now ≤ 64)) }
     {
         if octets.len() > 64 {
             return Err(StationRefusal::LongBlock);
@@ -121,7 +120,7 @@ impl Station {
         }
         let ns = self.vs;
         let _fitted = self.window.push(octets);
-        self.vs = (ns + 1) % 8;
+        self.vs = ns.next();
         Ok(ns)
     }
 

@@ -8,6 +8,7 @@ ghost use Rattle.stations.specs.Station.{send_check};
 ghost use Rattle.stations.specs.Views.{station_of};
 
 use super::{FarStatus, Station};
+use crate::number::Number;
 use crate::puts::deliver;
 use crate::{Counts, StationRefusal};
 use frames::{Kind, Parts, Way};
@@ -21,20 +22,20 @@ impl Station {
         Parts {
             kind: self.own_status(),
             ns: 0,
-            nr: self.vr,
+            nr: self.vr.get(),
             b: 1,
             info: &[],
         }
     }
 
     // A block as an I frame.
-    fn inform<'a>(&self, ns: u8, block: &'a [u8]) -> Parts<'a>
-        ensures { given result ≡ inform (station_of self.now) ns block.now }
+    fn inform<'a>(&self, ns: Number, block: &'a [u8]) -> Parts<'a>
+        ensures { given result ≡ inform (station_of self.now) ns.value block.now }
     {
         Parts {
             kind: Kind::I,
-            ns,
-            nr: self.vr,
+            ns: ns.get(),
+            nr: self.vr.get(),
             b: 0,
             info: block,
         }
@@ -58,16 +59,17 @@ impl Station {
 
     // Every outstanding block, oldest first, under its old N(S).
     fn put_window<L: Line>(&self, line: &mut L, way: Way) -> Counts
-        ensures answers { result ≡ counts (length (station_of self.now).window) (on way (L.Line.meaning line.old)) (again_from (L.Line.meaning line.old).capacity (station_of self.now) self.now.va (station_of self.now).window (on way (L.Line.meaning line.old))) }
+        ensures answers { result ≡ counts (length (station_of self.now).window) (on way (L.Line.meaning line.old)) (again_from (L.Line.meaning line.old).capacity (station_of self.now) self.now.va.value (station_of self.now).window (on way (L.Line.meaning line.old))) }
         ensures few { AtMost 7 result }
-        ensures leaves { L.Line.meaning line.new ≡ with_way way (again_from (L.Line.meaning line.old).capacity (station_of self.now) self.now.va (station_of self.now).window (on way (L.Line.meaning line.old))) (L.Line.meaning line.old) }
+        ensures leaves { L.Line.meaning line.new ≡ with_way way (again_from (L.Line.meaning line.old).capacity (station_of self.now) self.now.va.value (station_of self.now).window (on way (L.Line.meaning line.old))) (L.Line.meaning line.old) }
         ensures keeps { L.Line.beyond line.new ≡ L.Line.beyond line.old }
     {
-        let mut ns = self.va;
+        let mut ns = self.va; // it runs modulo 8 beside the blocks
         let mut counts = Counts::default();
+        // No fold: of what its closure changes, here the line, a proof knows nothing afterwards.
         for block in self.window.blocks() {
             counts = counts + deliver(line, way, self.inform(ns, block.octets()));
-            ns = (ns + 1) % 8;
+            ns = ns.next();
         }
         counts
     }

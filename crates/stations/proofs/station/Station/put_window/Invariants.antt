@@ -1,4 +1,4 @@
-use Rattle.std.proofs.Common.{◌≡◌, ◌≤◌, drop}
+use Rattle.std.proofs.Common.{◌≡◌, drop}
 use Rattle.lines.specs.Entries.{on, with_way}
 use Rattle.stations.specs.Puts.{again_from, counts}
 use Rattle.stations.specs.Views.{station_of}
@@ -13,9 +13,8 @@ invariant-loop-block g l =
     let x = station_of l.self in
     record {
       only : now ≡ with_way l.way (on l.way now) before;
-      left : again_from before.capacity x l.ns (drop l.block-index x.window) (on l.way now) ≡ again_from before.capacity x l.self.va x.window (on l.way before);
+      left : again_from before.capacity x l.ns.value (drop l.block-index x.window) (on l.way now) ≡ again_from before.capacity x l.self.va.value x.window (on l.way before);
       grows : Grows l.block-index (on l.way before) (on l.way now);
       counted : l.counts ≡ counts l.block-index (on l.way before) (on l.way now);
-      small : l.ns ≤ 7;
       keeps : g.L.Line.beyond l.line ≡ g.L.Line.beyond l.initial.line;
     }
