@@ -40,14 +40,13 @@ impl Row {
         ensures answers { result ≡ (nat_lt (length (in_row self.old)) 7 && nat_le (length octets.now) 64) }
         ensures leaves { in_row self.new ≡ (if result then in_row self.old ++ octets.now ∷ [] else in_row self.old) }
     {
-        let n = self.count;
-        if n == 7 {
+        if self.is_full() {
             return false;
         }
         let blocks = &mut self.blocks;
-        let fitted = blocks[n].write(octets);
+        let fitted = blocks[self.count].write(octets);
         if fitted {
-            self.count = n + 1;
+            self.count += 1;
         }
         fitted
     }
