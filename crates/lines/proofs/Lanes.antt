@@ -13,29 +13,6 @@ module _ {E : Type 0} where
   unfolding lane
   lane_length s cap first = simp (length-append, length-drop, length-take) (omega arith)
 
-  -- brought within the memory, the numbers mean the same
-  pub cap_within : (s : List E) (cap : ℕ) → take cap s ≡ take (min cap (length s)) s
-  cap_within s cap = ⊎_elim
-      (λ (h : length s < cap). take_all cap s (omega arith) ∙ sym (take_all (min cap (length s)) s (omega arith)))
-      (λ (h : cap ≤ length s). ap (λ k. take k s) (let e : cap ≡ min cap (length s) = omega arith in e))
-      (cases_lt (length s) cap)
-
-  pub rest_within : (s : List E) (cap : ℕ) → drop cap s ≡ drop (min cap (length s)) s
-  rest_within s cap = ⊎_elim
-      (λ (h : length s < cap). drop_all cap s (omega arith) ∙ sym (drop_all (min cap (length s)) s (omega arith)))
-      (λ (h : cap ≤ length s). ap (λ k. drop k s) (let e : cap ≡ min cap (length s) = omega arith in e))
-      (cases_lt (length s) cap)
-
-  pub lane_kept : (s : List E) (cap k first : ℕ) → k ≡ min cap (length s) → lane s cap first ≡ lane s k first
-  unfolding lane
-  lane_kept s cap k first e = ap (λ z. drop first z ++ take first z) (cap_within s cap ∙ ap (λ n. take n s) (sym e))
-
-  pub lane_past : (s : List E) (cap first : ℕ) → cap < first → lane s cap first ≡ lane s cap 0
-  unfolding lane
-  lane_past s cap first h =
-      let l : length (take cap s) ≤ first = simp length-take (omega arith) in
-      ap₂ (λ x y. x ++ y) (drop_all first (take cap s) l) (take_all first (take cap s) l) ∙ sym (append-nil (take cap s))
-
   -- a write to a slot
   pub lane_set : (s : List E) (cap first i p : ℕ) (e : E) → cap ≤ length s → first ≤ cap → i < cap → p ≡ slot cap first i →
       lane (set s p e) cap first ≡ set (lane s cap first) i e
@@ -73,7 +50,7 @@ module _ {E : Type 0} where
       (cases_lt i (cap - first))
 
   -- one slot on
-  pub lane_step : (s : List E) (cap first p : ℕ) (d : E) → cap ≤ length s → first ≤ cap → 0 < cap → p ≡ slot cap first 0 →
+  lane_step : (s : List E) (cap first p : ℕ) (d : E) → cap ≤ length s → first ≤ cap → 0 < cap → p ≡ slot cap first 0 →
       lane s cap (p + 1) ≡ drop 1 (lane s cap first) ++ take 1 (lane s cap first)
   unfolding lane
   lane_step s cap first p d l f h q =
@@ -103,12 +80,6 @@ module _ {E : Type 0} where
       lane_step (set s p b) cap first p b (simp length-set l) f h q
       ∙ ap (λ y. drop 1 y ++ take 1 y) (lane_set s cap first 0 p b l f h q)
       ∙ ap₂ (λ x y. x ++ y) (drop-set-lt 1 (lane s cap first) 0 b (omega arith)) (front_one (lane s cap first) b (omega (arith, lane_length s cap first)))
-
-  pub take_within : (zs : List E) (n k cap : ℕ) → length zs ≡ cap → k ≡ min n cap → take n zs ≡ take k zs
-  take_within zs n k cap l e = cap_within zs n ∙ ap (λ m. take m zs) (let q : min n (length zs) ≡ k = omega arith in q)
-
-  pub drop_within : (zs : List E) (n k cap : ℕ) → length zs ≡ cap → k ≡ min n cap → drop n zs ≡ drop k zs
-  drop_within zs n k cap l e = rest_within zs n ∙ ap (λ m. drop m zs) (let q : min n (length zs) ≡ k = omega arith in q)
 
   pub all_same : (P : E → Type 0) (xs ys : List E) → ys ≡ xs → AllByRecursion P xs → AllByRecursion P ys
   all_same P xs ys e h = subst (λ z. AllByRecursion P z) (sym e) h

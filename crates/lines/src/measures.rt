@@ -1,6 +1,6 @@
 // The measures of a line: K, D and room for K entries a way.
 ghost use Rattle.std.specs.Prelude.{◌≡◌};
-ghost use Rattle.lines.specs.Line.{check_answer};
+ghost use Rattle.lines.specs.Line.{check_answer, made};
 ghost use Rattle.lines.specs.Stored.{fit};
 
 use crate::LineRefusal;
@@ -13,6 +13,16 @@ pub(crate) fn check(k: usize, d: usize, one: usize, two: usize) -> Result<(), Li
         Ok(())
     } else {
         Err(LineRefusal::Measure)
+    }
+}
+
+// K and D of the line that is made with these measures: the dead line's where the check refuses them.
+pub(crate) fn granted(k: usize, d: usize, one: usize, two: usize) -> (usize, u16)
+    ensures { result ≡ ((made k d one two).capacity, (made k d one two).lifetime) }
+{
+    match check(k, d, one, two) {
+        Ok(_) => (k, d as u16),
+        Err(_) => (0, 1),
     }
 }
 

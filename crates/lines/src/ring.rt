@@ -1,5 +1,5 @@
 // A ring over lent memory: entries in its first slots, oldest first, for every kind of element that has a blank.
-ghost use Rattle.std.specs.Prelude.{◌≡◌};
+ghost use Rattle.std.specs.Prelude.{◌≡◌, ◌≤◌, length};
 
 mod bulk;
 mod calls;
@@ -20,12 +20,18 @@ impl Blank for u8 {
     }
 }
 
+// Why a ring refuses to add: it has too few slots left.
+#[derive(Clone, Copy, PartialEq, Eq, Debug)]
+pub struct RingFull;
+
 // The slots are the first `cap` of the memory; place 0 lies in slot `first`, and `count` places are held.
-// Whatever numbers the fields have, they mean some ring.
 #[derive(Drop)]
-pub struct Ring<'a, E: Blank> {
+pub struct Ring<'a, E: Copy> {
     slots: &'a mut [E],
     first: usize,
     count: usize,
     cap: usize,
+    ghost fits: { cap ≤ length slots.now },
+    ghost starts: { first ≤ cap },
+    ghost holds: { count ≤ cap },
 }

@@ -1,8 +1,9 @@
 ghost use Rattle.std.specs.Prelude.{◌≡◌};
 ghost use Rattle.lines.specs.Refusals.{number_of, word_of};
-ghost use Rattle.lines.specs.declared.refusal.LineRefusal.TheVariants.{Frame};
+ghost use Rattle.lines.specs.declared.refusal.LineRefusal.TheVariants.{Frame, Full};
 
 use super::LineRefusal;
+use crate::RingFull;
 use frames::FrameRefusal;
 
 impl From<FrameRefusal> for LineRefusal {
@@ -10,6 +11,15 @@ impl From<FrameRefusal> for LineRefusal {
 
     fn from(refusal: FrameRefusal) -> LineRefusal {
         LineRefusal::Frame(refusal)
+    }
+}
+
+// A way that holds as many entries as it can is full.
+impl From<RingFull> for LineRefusal {
+    ghost from_gives = { λ e r. r ≡ Full };
+
+    fn from(_full: RingFull) -> LineRefusal {
+        LineRefusal::Full
     }
 }
 

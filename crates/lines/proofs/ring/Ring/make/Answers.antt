@@ -1,4 +1,4 @@
-use Rattle.std.proofs.Common.{◌≡◌, ◌≤◌, min, length, drop, sym, refl, ap, ◌∙◌, arith}
+use Rattle.std.proofs.Common.{refl, ◌∙◌, arith}
 use Rattle.std.proofs.lemmas.List.{drop-set-lt}
 use Rattle.std.proofs.lemmas.Bool.Decides.{nat_tests}
 use Rattle.lines.proofs.Lanes.{blank_more, lane_blank}
@@ -13,11 +13,9 @@ loop-i-preserved g c = (
 
 pub returns : goal.returns
 returns g c =
-    let n : c.if-n-slots.cap ≤ length c.loop-i.slots = omega arith in
-    let m : min c.if-n-slots.cap (length c.loop-i.slots) ≡ c.if-n-slots.cap = omega arith in
     record {
       holds = refl;
-      slots = m ∙ elim c.if-n-slots.branch [ then-n-slots w ↦ grind (arith, nat_tests) | else-n-slots w ↦ grind (arith, nat_tests) ];
+      slots = elim c.if-n-slots.branch [ then-n-slots w ↦ grind (arith, nat_tests) | else-n-slots w ↦ grind (arith, nat_tests) ];
       blank = lane_blank c.loop-i.slots c.if-n-slots.cap c.blank-blank.result _ (λ k h. c.loop-i.invariant.0 k (omega arith)) c.blank-blank.ensures;
-      rest = c.loop-i.invariant.1 ∙ sym (ap (λ k. drop k c.args.slots.now) m);
+      rest = c.loop-i.invariant.1;
     }

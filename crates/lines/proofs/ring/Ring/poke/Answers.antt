@@ -3,7 +3,8 @@ use lib.Seq.{paste-zero}
 use Rattle.std.proofs.lemmas.List.Edits.{paste_more}
 use Rattle.std.proofs.lemmas.Bool.{le-leb}
 use Rattle.lines.specs.Ring.{held}
-use Rattle.lines.proofs.Runs.{poke_all, kept_same, kept_then}
+use Rattle.lines.proofs.Runs.{poke_all}
+use Rattle.lines.proofs.Places.{kept_same, kept_then}
 use Rattle.lines.proofs.ring.Ring.poke.Goals as goal
 
 pub loop-j-init : goal.loop-j-init
