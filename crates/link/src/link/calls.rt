@@ -1,5 +1,6 @@
 ghost use Rattle.std.specs.Prelude.{◌≡◌};
-ghost use Rattle.link.specs.Calls.{asked, after, opens_answer, opens_leaves, closes_answer, closes_leaves, polls_answer, polls_leaves, sends_answer, sends_leaves, takes_answer, takes_leaves, ticks_answer, ticks_leaves, fetches_answer, fetches_leaves, fetched, fetch_writes, strikes_answer, strikes_leaves};
+ghost use Rattle.link.specs.Calls.{asked, opens_answer, closes_answer, polls_answer, sends_answer, takes_answer, ticks_answer, fetches_answer, fetched, fetch_writes, strikes_answer};
+ghost use Rattle.link.specs.History.{opens, closes, polls, ticks, sends, takes, fetches, strikes, step};
 ghost use Rattle.link.specs.State.{check_answer, made};
 ghost use Rattle.link.specs.Promise.{Law};
 ghost use Rattle.link.specs.DrainPromise.{DrainLaw};
@@ -48,8 +49,8 @@ impl<L: Line> Link<L> {
 
     // Primary closed: it becomes opening, puts SARM, timer 0.
     pub fn open(&mut self) -> Result<Counts, LinkRefusal>
-        ensures answers { result ≡ asked (model L.Line.meaning self.old) (opens_answer) }
-        ensures leaves { model L.Line.meaning self.new ≡ after (model L.Line.meaning self.old) (opens_leaves) }
+        ensures answers { result ≡ asked (model L.Line.meaning self.old) opens_answer }
+        ensures leaves { model L.Line.meaning self.new ≡ step (model L.Line.meaning self.old) opens }
         ensures keeps { L.Line.beyond self.new.line ≡ L.Line.beyond self.old.line }
     {
         self.checked?;
@@ -58,8 +59,8 @@ impl<L: Line> Link<L> {
 
     // Primary open, no poll outstanding: it becomes closing, puts DISC, timer 0.
     pub fn close(&mut self) -> Result<Counts, LinkRefusal>
-        ensures answers { result ≡ asked (model L.Line.meaning self.old) (closes_answer) }
-        ensures leaves { model L.Line.meaning self.new ≡ after (model L.Line.meaning self.old) (closes_leaves) }
+        ensures answers { result ≡ asked (model L.Line.meaning self.old) closes_answer }
+        ensures leaves { model L.Line.meaning self.new ≡ step (model L.Line.meaning self.old) closes }
         ensures keeps { L.Line.beyond self.new.line ≡ L.Line.beyond self.old.line }
     {
         self.checked?;
@@ -68,8 +69,8 @@ impl<L: Line> Link<L> {
 
     // Primary open, no poll outstanding: it puts its own status with B 1, timer 0.
     pub fn poll(&mut self) -> Result<Counts, LinkRefusal>
-        ensures answers { result ≡ asked (model L.Line.meaning self.old) (polls_answer) }
-        ensures leaves { model L.Line.meaning self.new ≡ after (model L.Line.meaning self.old) (polls_leaves) }
+        ensures answers { result ≡ asked (model L.Line.meaning self.old) polls_answer }
+        ensures leaves { model L.Line.meaning self.new ≡ step (model L.Line.meaning self.old) polls }
         ensures keeps { L.Line.beyond self.new.line ≡ L.Line.beyond self.old.line }
     {
         self.checked?;
@@ -79,7 +80,7 @@ impl<L: Line> Link<L> {
     // An open end: the block enters the window, and its I frame is put.
     pub fn send(&mut self, end: End, octets: &[u8]) -> Result<Counts, LinkRefusal>
         ensures answers { result ≡ asked (model L.Line.meaning self.old) (λ g x. sends_answer g end octets.now x) }
-        ensures leaves { model L.Line.meaning self.new ≡ after (model L.Line.meaning self.old) (λ g x. sends_leaves g end octets.now x) }
+        ensures leaves { model L.Line.meaning self.new ≡ step (model L.Line.meaning self.old) (sends end octets.now) }
         ensures keeps { L.Line.beyond self.new.line ≡ L.Line.beyond self.old.line }
     {
         self.checked?;
@@ -91,8 +92,8 @@ impl<L: Line> Link<L> {
 
     // The line first; then a running timer rises by 1, and at T the primary asks again.
     pub fn tick(&mut self) -> Result<Counts, LinkRefusal>
-        ensures answers { result ≡ asked (model L.Line.meaning self.old) (ticks_answer) }
-        ensures leaves { model L.Line.meaning self.new ≡ after (model L.Line.meaning self.old) (ticks_leaves) }
+        ensures answers { result ≡ asked (model L.Line.meaning self.old) ticks_answer }
+        ensures leaves { model L.Line.meaning self.new ≡ step (model L.Line.meaning self.old) ticks }
         ensures keeps { L.Line.beyond self.new.line ≡ L.Line.beyond self.old.line }
     {
         self.checked?;
@@ -105,7 +106,7 @@ impl<L: Line> Link<L> {
     pub fn fetch(&mut self, end: End, place: &mut [u8; 64]) -> Result<Fetched, LinkRefusal>
         ensures answers { result ≡ asked (model L.Line.meaning self.old) (λ g x. fetched (fetches_answer end x)) }
         ensures writes { place.new ≡ fetch_writes (asked (model L.Line.meaning self.old) (λ g x. fetches_answer end x)) place.old }
-        ensures leaves { model L.Line.meaning self.new ≡ after (model L.Line.meaning self.old) (λ g x. fetches_leaves end x) }
+        ensures leaves { model L.Line.meaning self.new ≡ step (model L.Line.meaning self.old) (fetches end) }
         ensures keeps { L.Line.beyond self.new.line ≡ L.Line.beyond self.old.line }
     {
         self.checked?;
@@ -122,7 +123,7 @@ impl<L: Line> Link<L> {
     // The line's strike.
     pub fn strike(&mut self, way: Way, place: usize, burst: Burst) -> Result<Counts, LinkRefusal>
         ensures answers { result ≡ asked (model L.Line.meaning self.old) (λ g x. strikes_answer way place burst.start burst.mask x) }
-        ensures leaves { model L.Line.meaning self.new ≡ after (model L.Line.meaning self.old) (λ g x. strikes_leaves way place burst.start burst.mask x) }
+        ensures leaves { model L.Line.meaning self.new ≡ step (model L.Line.meaning self.old) (strikes way place burst.start burst.mask) }
         ensures keeps { L.Line.beyond self.new.line ≡ L.Line.beyond self.old.line }
     {
         self.checked?;
@@ -134,7 +135,7 @@ impl<L: Line> Link<L> {
     pub fn take(&mut self, end: End) -> Result<Taken, LinkRefusal>
         ensures answers { result ≡ asked (model L.Line.meaning self.old) (λ g x. takes_answer g end x) }
         ensures few { FewAnswered result }
-        ensures leaves { model L.Line.meaning self.new ≡ after (model L.Line.meaning self.old) (λ g x. takes_leaves g end x) }
+        ensures leaves { model L.Line.meaning self.new ≡ step (model L.Line.meaning self.old) (takes end) }
         ensures keeps { L.Line.beyond self.new.line ≡ L.Line.beyond self.old.line }
     {
         self.checked?;
