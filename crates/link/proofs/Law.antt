@@ -46,8 +46,8 @@ numbered h Secondary is = subst Unrefused is (secondary_takes h.0 h.1).unrefused
 
 no_fault : (timely free : Bool) → fault_by timely free ≡ None → (timely ≡ true) × (free ≡ true)
 no_fault true true e = (refl, refl)
-no_fault true false e = let z : ◌≡◌ {A = ℕ} 0 1 = cc in absurd (omega arith)
-no_fault false free e = let z : ◌≡◌ {A = ℕ} 0 1 = cc in absurd (omega arith)
+no_fault true false e = cc
+no_fault false free e = cc
 
 none_there : (es : List Entry) → length es ≡ 0 → [] ≡ es
 none_there [] e = refl

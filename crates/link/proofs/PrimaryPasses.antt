@@ -44,7 +44,7 @@ module _ (k : ℕ) (x : Station) where
   resend_none true final t es e = (refl, e)
   resend_none false false t es e = (refl, e)
   resend_none false true None es e = (refl, refl)
-  resend_none false true (Some n) es e = absurd (let z : ◌≡◌ {A = ℕ} 0 1 = cc in omega arith)
+  resend_none false true (Some n) es e = cc
 
 -- from way 1, the entries of way 2, the timer and the primary's tally, to way 1, the timer and the tally then; W is what
 -- the room at the primary is known under
