@@ -70,8 +70,7 @@ pub acknowledge_none : (y : Tally) → acknowledge 0 y ≡ y
 acknowledge_none y = ap at_count (add-zero y.acknowledged)
   where
     at_count : ℕ → Tally
-    at_count n =
-        record { accepted = y.accepted; taken = y.taken; acknowledged = n; ever = y.ever; fetched = y.fetched }
+    at_count n = record y { acknowledged = n }
 
 -- what waits after an I frame, and after RR or RNR
 pub whole_info : (v w : Bool) (x : Station) (y : Tally) (nr : ℕ) (z : Block) →

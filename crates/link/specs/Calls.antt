@@ -170,7 +170,7 @@ held_by None before after = after
 
 -- the link after a call that leaves this state
 abbrev pub after : Model → (Measures → State → State) → Model
-after l f = record { fault = l.fault; measures = l.measures; now = held_by l.fault l.now (f l.measures l.now) }
+after l f = record l { now = held_by l.fault l.now (f l.measures l.now) }
 
 -- and what the call answers
 abbrev pub asked : {A : Type 0} → Model → (Measures → State → Result A LinkRefusal) → Result A LinkRefusal

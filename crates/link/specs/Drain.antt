@@ -4,6 +4,7 @@ use Rattle.frames.specs.declared.way.Way.{Way}
 use Rattle.frames.specs.declared.way.Way.TheVariants.{One, Two}
 use Rattle.stations.specs.declared.answer.Counts.{Counts}
 use Rattle.stations.specs.declared.answer.Taken.{Taken}
+use Rattle.stations.specs.Counts.{all_of}
 use Rattle.stations.specs.declared.refusal.StationRefusal.TheVariants.{Mode}
 use Rattle.stations.specs.Primary.{Timer, is_open}
 use Rattle.link.specs.declared.drained.Drained.{Drained}
@@ -83,13 +84,7 @@ no_calls = record { counts = none_put; ticks = 0; takes = 0; settled = false }
 
 -- so many ticks and takes more, and these frames
 abbrev pub more : ℕ → ℕ → Counts → Drained → Drained
-more i j c d =
-    record {
-      counts = record { put = d.counts.put + c.put; lost = d.counts.lost + c.lost };
-      ticks = d.ticks + i;
-      takes = d.takes + j;
-      settled = d.settled;
-    }
+more i j c d = record d { counts = all_of d.counts c; ticks = d.ticks + i; takes = d.takes + j }
 
 -- a tick counts as a tick, and a take as a take, of a struck entry too
 abbrev pub counted_call : Call → Counts → Drained → Drained
@@ -114,7 +109,7 @@ abbrev pub settled_at : State → Bool
 settled_at x = outstanding_at Primary x == 0 && outstanding_at Secondary x == 0
 
 abbrev pub settled_by : Bool → Drained → Drained
-settled_by b d = record { counts = d.counts; ticks = d.ticks; takes = d.takes; settled = b }
+settled_by b d = record d { settled = b }
 
 -- a link that its check refused answers that; the primary must be open
 abbrev pub drain_refusal : Option LinkRefusal → Bool → Option LinkRefusal

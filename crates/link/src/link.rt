@@ -14,6 +14,7 @@ pub struct Link<L: Line> {
     line: L,
     limit: usize,
     checked: Result<(), LinkRefusal>, // a link that its check refused answers that before all else
-    primary: Primary, // a type of its own, so an end is a match: a trait for the two is no plainer, with two arms a call
+    // Two types: a call at an end matches on it, since a trait for two arms would be no plainer.
+    primary: Primary,
     secondary: Secondary,
 }
