@@ -47,9 +47,9 @@ impl<A: Store, B: Store> Line for TwoWay<A, B> {
         }
     }
 
-    #[tactic(auto, using(crate::proofs::Stores::by_false, crate::proofs::Stores::dead_strike, crate::proofs::Stores::dead_strike_left, crate::proofs::Stores::strike_one, crate::proofs::Stores::strike_two, crate::proofs::Stores::strike_one_left, crate::proofs::Stores::strike_two_left))]
     // Besides what every line promises: a granted burst makes of what stands at the place what the form says, and all
     // else on the way stays. On the octet line it turns over frame bit `start + i` for each bit `i` of the mask that is 1.
+    #[tactic(auto, using(crate::proofs::Stores::by_false, crate::proofs::Stores::dead_strike, crate::proofs::Stores::dead_strike_left, crate::proofs::Stores::strike_one, crate::proofs::Stores::strike_two, crate::proofs::Stores::strike_one_left, crate::proofs::Stores::strike_two_left))]
     fn strike(&mut self, way: Way, place: usize, burst: Burst) -> Result<(), LineRefusal>
         ensures answers { result ≡ strike_answer (⟦<TwoWay<A, B> as Line>⟧.meaning self.old) way place burst.start burst.mask }
         ensures leaves { ⟦<TwoWay<A, B> as Line>⟧.meaning self.new ≡ strike_leaves (⟦<TwoWay<A, B> as Line>⟧.meaning self.old) way place burst.start burst.mask }
