@@ -1,5 +1,5 @@
 // A frame that the line has no room for is lost.
-ghost use Rattle.std.specs.Prelude.{◌≡◌, ◌≤◌, true, is_ok};
+ghost use Rattle.std.specs.Prelude.{◌≡◌, true, is_ok};
 ghost use Rattle.frames.specs.Parts.{given};
 ghost use Rattle.frames.specs.Writer.{admit_answer};
 ghost use Rattle.lines.specs.Entries.{on, with_way};

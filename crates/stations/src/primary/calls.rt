@@ -2,7 +2,7 @@ ghost use Rattle.std.specs.Prelude.{◌≡◌, true, length, is_ok, None, Ok};
 ghost use Rattle.frames.specs.Blocks.{parts_in};
 ghost use Rattle.lines.specs.Entries.{with_way};
 ghost use Rattle.stations.specs.declared.mode.Mode.TheVariants.{Closed};
-ghost use Rattle.stations.specs.Station.{fresh, outstanding, fetch_answer, fetch_leaves};
+ghost use Rattle.stations.specs.Station.{fresh, outstanding, fetch_answer};
 ghost use Rattle.stations.specs.Answers.{fetch_length, fetch_writes, FewTaken};
 ghost use Rattle.frames.specs.declared.way.Way.TheVariants.{One};
 ghost use Rattle.frames.specs.Parts.{given};

@@ -1,5 +1,5 @@
 // What a station puts on its way: its status, a block, and every outstanding block again.
-ghost use Rattle.std.specs.Prelude.{◌≡◌, ◌≤◌, true, length};
+ghost use Rattle.std.specs.Prelude.{◌≡◌, true, length};
 ghost use Rattle.frames.specs.Parts.{given};
 ghost use Rattle.lines.specs.Entries.{on, with_way};
 ghost use Rattle.stations.specs.Answers.{AtMost, accept_leaves};
