@@ -1,5 +1,5 @@
 // What a granted drain answers: the frames that it put and lost, its ticks and takes (those of struck entries too), and
-// whether neither end then has a block outstanding.
+// whether neither end then has a block outstanding. (A Result would be no plainer: the counts are told settled or not.)
 ghost use Rattle.std.specs.Prelude.{◌≡◌, ◌≤◌};
 ghost use Rattle.stations.specs.Answers.{FewFrames};
 ghost use Rattle.link.specs.Drain.{counts_by, counted_call, total};

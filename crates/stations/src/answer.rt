@@ -36,7 +36,8 @@ pub struct Heard {
 }
 
 // What a station made of a frame: the frames that it put, the blocks acknowledged to it, whether it took the
-// frame's block in, and whether it passed the frame over.
+// frame's block in, and whether it passed the frame over. (An enum of outcomes would be no plainer: each of the four is told
+// whatever the others are.)
 // That these are at most 8 frames stands in the clauses `few`, and not here: the equations of specs/ make values of
 // this type, and each would then need the proof of it.
 #[derive(Clone, Copy, PartialEq, Eq, Debug)]

@@ -35,7 +35,8 @@ impl Row {
         &self.blocks[..self.count]
     }
 
-    // A block of these octets joins the end, where 7 do not stand already and there are at most 64 octets.
+    // A block of these octets joins the end, where 7 do not stand already and there are at most 64 octets. (A Result would be
+    // no plainer: whether the block is taken in is what both callers ask.)
     pub(crate) fn push(&mut self, octets: &[u8]) -> bool
         ensures answers { result ≡ (nat_lt (length (in_row self.old)) 7 && nat_le (length octets.now) 64) }
         ensures leaves { in_row self.new ≡ (if result then in_row self.old ++ octets.now ∷ [] else in_row self.old) }
