@@ -1,13 +1,7 @@
 -- A decimal number is read digit by digit.
-use Rattle.std.proofs.Common.{◌≡◌, ℕ, ◌+◌, ◌-◌, ◌*◌, ◌<◌, ◌≤◌, Bool, true, false, cond, not, ◌&&◌, eqb, leb, ◌⊎◌, List, [], ◌∷◌, length, get_or, drop, Some, None, Option, sym, refl, ap, ◌∙◌, ap₂, arith, rules, le-leb}
+use Rattle.std.proofs.Common.{◌≡◌, ℕ, ◌+◌, ◌-◌, ◌*◌, ◌<◌, ◌≤◌, Bool, true, false, cond, not, ◌&&◌, eqb, leb, List, [], ◌∷◌, length, get_or, drop, Some, None, Option, sym, refl, ap, ◌∙◌, ap₂, arith, rules, le-leb}
 use Rattle.std.proofs.lemmas.List.{at_drop_more, at_drop_all}
 use Rattle.console.specs.Decimals.{is_digit, all_digits, value_after, decimal_answer}
-
-pub is_digit_of : (o : ℕ) → 48 ≤ o → o ≤ 57 → is_digit o ≡ true
-is_digit_of o h k = search rules
-
-pub no_digit_of : (o : ℕ) → (o < 48) ⊎ (57 < o) → is_digit o ≡ false
-no_digit_of o h = search rules
 
 -- the digits that are left decide what all decide
 pub record Sofar (most : ℕ) (os : List ℕ) (i v : ℕ) : Type 0 where
@@ -23,19 +17,13 @@ refused : (e d l : Bool) (v : ℕ) → (d && l) ≡ false → cond {A = Option �
 refused true d l v h = refl
 refused false d l v h = ap (λ (b : Bool). cond b (Some v) None) h
 
--- an octet that is no digit
-pub refused_digit : (most : ℕ) (os : List ℕ) (i v : ℕ) → i < length os → (get_or os i 0 < 48) ⊎ (57 < get_or os i 0) → Sofar most os i v → decimal_answer most os ≡ None
-refused_digit most os i v h t s =
-    let d : all_digits os ≡ false = sym s.digits ∙ at_drop_more all_digits os i 0 h ∙ ap (λ (b : Bool). b && all_digits (drop (i + 1) os)) (no_digit_of (get_or os i 0) t) in
-    refused (eqb (length os) 0) (all_digits os) (leb (value_after 0 os) most) (value_after 0 os) (ap (λ (b : Bool). b && leb (value_after 0 os) most) d)
-
 -- one digit more
-pub one_more : (most : ℕ) (os : List ℕ) (i v : ℕ) → i < length os → 48 ≤ get_or os i 0 → get_or os i 0 ≤ 57 → v * 10 + (get_or os i 0 - 48) ≤ most → Sofar most os i v → Sofar most os (i + 1) (v * 10 + (get_or os i 0 - 48))
-one_more most os i v h low high small s =
+pub one_more : (most : ℕ) (os : List ℕ) (i v : ℕ) → i < length os → is_digit (get_or os i 0) ≡ true → v * 10 + (get_or os i 0 - 48) ≤ most → Sofar most os i v → Sofar most os (i + 1) (v * 10 + (get_or os i 0 - 48))
+one_more most os i v h digit small s =
     record {
       small = small;
       value = sym (at_drop_more (value_after v) os i 0 h) ∙ s.value;
-      digits = sym (ap (λ (b : Bool). b && all_digits (drop (i + 1) os)) (is_digit_of (get_or os i 0) low high)) ∙ sym (at_drop_more all_digits os i 0 h) ∙ s.digits;
+      digits = sym (ap (λ (b : Bool). b && all_digits (drop (i + 1) os)) digit) ∙ sym (at_drop_more all_digits os i 0 h) ∙ s.digits;
     }
 
 and_false : (b : Bool) → (b && false) ≡ false
