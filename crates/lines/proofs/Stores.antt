@@ -209,6 +209,15 @@ module _ {A B : Type 0} (f : A → Entry) (g : B → Entry) (xs : List A) (ys : 
           lists_by k (record { one = map f xs; two = es; capacity = m; lifetime = d }) ≡ strike_leaves (lists_by n plain) w place start mask
       strike_two_left k es q z = strike_left n plain h Two k es q place start mask r a z ∙ sym (ap (λ y. strike_leaves (lists_by n plain) y place start mask) e)
 
+-- ---- what the calls of a line of two stores go by
+pub ruleset takes = (by_false, dead_take, dead_take_left, take_one, take_two, take_one_left, take_two_left)
+
+pub ruleset strikes = (by_false, dead_strike, dead_strike_left, strike_one, strike_two, strike_one_left, strike_two_left)
+
+pub ruleset counts = (by_false, dead_length, bounded, counted_one, counted_two)
+
+pub ruleset measures = (by_true, by_false, bounded, dead_length)
+
 abbrev empty : ℕ → ℕ → Lists
 empty k d = record { one = []; two = []; capacity = k; lifetime = d }
 

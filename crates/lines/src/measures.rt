@@ -9,7 +9,7 @@ use crate::LineRefusal;
 pub(crate) fn check(k: usize, d: usize, one: usize, two: usize) -> Result<(), LineRefusal>
     ensures { result ≡ check_answer k d one two }
 {
-    if k >= 8 && k <= 64 && d >= 1 && d <= 1000 && k <= one && k <= two {
+    if (8..=64).contains(&k) && (1..=1000).contains(&d) && k <= one && k <= two {
         Ok(())
     } else {
         Err(LineRefusal::Measure)
@@ -30,5 +30,5 @@ pub(crate) fn granted(k: usize, d: usize, one: usize, two: usize) -> (usize, u16
 pub(crate) fn fits(one: usize, two: usize, lifetime: u16) -> bool
     ensures { result ≡ fit one two lifetime }
 {
-    one == two && one <= 64 && lifetime >= 1 && lifetime <= 1000
+    one == two && one <= 64 && (1..=1000).contains(&lifetime)
 }

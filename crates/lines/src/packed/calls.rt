@@ -30,6 +30,7 @@ impl Stored for Packed {
         FrameBuf::try_from(Parts::from(frame)).ok()
     }
 
+    #[tactic(auto, using(crate::proofs::Packs::packed_age))]
     fn age(&self) -> u16 {
         u16::from_le_bytes([self.octets[1], self.octets[2]])
     }

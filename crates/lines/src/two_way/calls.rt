@@ -36,7 +36,7 @@ impl<A: Store, B: Store> Line for TwoWay<A, B> {
         }
     }
 
-    #[tactic(auto, using(crate::proofs::Stores::by_false, crate::proofs::Stores::dead_take, crate::proofs::Stores::dead_take_left, crate::proofs::Stores::take_one, crate::proofs::Stores::take_two, crate::proofs::Stores::take_one_left, crate::proofs::Stores::take_two_left))]
+    #[tactic(auto, using(crate::proofs::Stores::takes))]
     fn take(&mut self, way: Way) -> Result<FrameBuf, LineRefusal> {
         if !self.sound() {
             return Err(LineRefusal::Idle);
@@ -49,7 +49,7 @@ impl<A: Store, B: Store> Line for TwoWay<A, B> {
 
     // Besides what every line promises: a granted burst makes of what stands at the place what the form says, and all
     // else on the way stays. On the octet line it turns over frame bit `start + i` for each bit `i` of the mask that is 1.
-    #[tactic(auto, using(crate::proofs::Stores::by_false, crate::proofs::Stores::dead_strike, crate::proofs::Stores::dead_strike_left, crate::proofs::Stores::strike_one, crate::proofs::Stores::strike_two, crate::proofs::Stores::strike_one_left, crate::proofs::Stores::strike_two_left))]
+    #[tactic(auto, using(crate::proofs::Stores::strikes))]
     fn strike(&mut self, way: Way, place: usize, burst: Burst) -> Result<(), LineRefusal>
         ensures answers { result ≡ strike_answer (⟦<TwoWay<A, B> as Line>⟧.meaning self.old) way place burst.start burst.mask }
         ensures leaves { ⟦<TwoWay<A, B> as Line>⟧.meaning self.new ≡ strike_leaves (⟦<TwoWay<A, B> as Line>⟧.meaning self.old) way place burst.start burst.mask }
@@ -71,7 +71,7 @@ impl<A: Store, B: Store> Line for TwoWay<A, B> {
         self.two.tick(self.lifetime);
     }
 
-    #[tactic(auto, using(crate::proofs::Stores::by_false, crate::proofs::Stores::dead_length, crate::proofs::Stores::bounded, crate::proofs::Stores::counted_one, crate::proofs::Stores::counted_two))]
+    #[tactic(auto, using(crate::proofs::Stores::counts))]
     fn count(&self, way: Way) -> usize {
         if !self.sound() {
             return 0;
@@ -82,12 +82,12 @@ impl<A: Store, B: Store> Line for TwoWay<A, B> {
         }
     }
 
-    #[tactic(auto, using(crate::proofs::Stores::by_true, crate::proofs::Stores::by_false, crate::proofs::Stores::bounded, crate::proofs::Stores::dead_length))]
+    #[tactic(auto, using(crate::proofs::Stores::measures))]
     fn capacity(&self) -> usize {
         if self.sound() { self.one.room() } else { 0 }
     }
 
-    #[tactic(auto, using(crate::proofs::Stores::by_true, crate::proofs::Stores::by_false, crate::proofs::Stores::bounded, crate::proofs::Stores::dead_length))]
+    #[tactic(auto, using(crate::proofs::Stores::measures))]
     fn lifetime(&self) -> usize {
         if self.sound() {
             self.lifetime as usize
