@@ -2,10 +2,10 @@
 use Rattle.std.proofs.Common.{◌≡◌, ℕ, ◌+◌, ◌-◌, ◌<◌, ◌≤◌, min, List, [], ◌∷◌, ◌++◌, length, get_or, take, drop, set, sym, refl, ap, ◌∙◌, subst, ap₂, ⊎_elim, arith}
 use lib.Seq.{take-set-lt}
 use Rattle.std.specs.List.{AllByRecursion}
-use Rattle.std.proofs.lemmas.List.{length-set, length-drop, length-take, length-append, length-take-le, get_or-set_same, get_or-set_other, get_or_append_left, get_or-append_right, get_or-drop, get_or-take, take_all, drop_all, take-set-le, drop-set-lt, drop-set-add, set-append_left, set-append_right, append-nil, append_assoc, take_more, drop_more}
+use Rattle.std.proofs.lemmas.List.{length-set, length-drop, length-take, length-append, length-take-le, get_or_append_left, get_or-append_right, get_or-drop, get_or-take, take_all, drop_all, take-set-le, drop-set-lt, drop-set-add, set-append_left, set-append_right, append-nil, append_assoc, take_more, drop_more}
 use Rattle.std.proofs.ByRecursion.{All-from_get_or}
 use Rattle.std.proofs.lemmas.Bool.Decides.{nat_tests}
-use Rattle.std.proofs.lemmas.Bool.{cases_lt, cases_eq}
+use Rattle.std.proofs.lemmas.Bool.{cases_lt}
 use Rattle.lines.specs.Ring.{lane, slot}
 
 module _ {E : Type 0} where
@@ -83,14 +83,6 @@ module _ {E : Type 0} where
 
   pub all_same : (P : E → Type 0) (xs ys : List E) → ys ≡ xs → AllByRecursion P xs → AllByRecursion P ys
   all_same P xs ys e h = subst (λ z. AllByRecursion P z) (sym e) h
-
-  -- one more slot made blank
-  pub blank_more : (s : List E) (i : ℕ) (b : E) → i < length s → ((k : ℕ) → k < i → get_or s k b ≡ b) → (k : ℕ) → k < i + 1 → get_or (set s i b) k b ≡ b
-  blank_more s i b l h k m =
-      ⊎_elim
-      (λ (o : k ≡ i). let g = get_or-set_same s i b b l in cc)
-      (λ (o : k ≡ i → ⊥). get_or-set_other s i k b b o ∙ h k (omega arith))
-      (cases_eq k i)
 
   -- a memory whose slots are all blank
   pub lane_blank : (s : List E) (cap : ℕ) (b d : E) → ((k : ℕ) → k < cap → get_or s k b ≡ b) → b ≡ d → AllByRecursion (λ x. x ≡ d) (lane s cap 0)

@@ -3,7 +3,7 @@ use Rattle.std.proofs.Common.{◌≡◌, ℕ, zero, suc, ◌+◌, ◌-◌, ◌<�
 use lib.Seq.{take-set-lt}
 use Rattle.std.proofs.lemmas.List.{length-drop, length-take-le, get_or-take, drop-set-lt, take_more_set, drop-take, drop-drop, take-append-le, drop-append-le}
 use Rattle.lines.specs.Entries.{at}
-use Rattle.lines.specs.Ring.{lane, slot, held, Kept}
+use Rattle.lines.specs.Ring.{lane, slot, held, Blanked, Kept}
 use Rattle.lines.specs.declared.ring.Ring.{Ring}
 use Rattle.lines.proofs.Lanes.{lane_length, lane_set, lane_at, lane_pop}
 
@@ -88,5 +88,5 @@ module _ {E : Type 0} where
   pub kept_then : (b : E) (q r s : Ring E) → Kept b q r → Kept b r s → Kept b q s
   kept_then b q r s h k = record { slots = k.slots ∙ h.slots; rest = k.rest ∙ h.rest; blanks = λ x. k.blanks (h.blanks x) }
 
-  pub kept_same : (b : E) (r : Ring E) → Kept b r r
-  kept_same b r = record { slots = refl; rest = refl; blanks = λ x. x }
+  pub blanks_kept : (b : E) (r s : Ring E) → Kept b r s → Blanked b r → Blanked b s
+  blanks_kept b r s k h = k.blanks h

@@ -46,14 +46,17 @@ impl Store for RecordStore<'_> {
         self.ring.get(place)
     }
 
+    #[tactic(auto, using(crate::proofs::Places::blanks_kept))]
     fn replace(&mut self, place: usize, new: Record) {
         self.ring.replace(place, new);
     }
 
+    #[tactic(auto, using(crate::proofs::Places::blanks_kept))]
     fn push(&mut self, new: Record) -> Result<(), RingFull> {
         self.ring.push(new)
     }
 
+    #[tactic(auto, using(crate::proofs::Places::blanks_kept))]
     fn pop(&mut self) -> Option<Record> {
         self.ring.pop()
     }
