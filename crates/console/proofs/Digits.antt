@@ -1,5 +1,7 @@
 -- A decimal number is read digit by digit.
 use Rattle.std.proofs.Common.{◌≡◌, ℕ, ◌+◌, ◌-◌, ◌*◌, ◌<◌, ◌≤◌, Bool, true, false, cond, not, ◌&&◌, eqb, leb, List, [], ◌∷◌, length, get_or, drop, Some, None, Option, sym, refl, ap, ◌∙◌, ap₂, arith, rules, le-leb}
+use Rattle.std.proofs.Math.Bool.{and-false}
+use Rattle.std.proofs.lemmas.Bool.{lt-leb}
 use Rattle.std.proofs.lemmas.List.{at_drop_more, at_drop_all}
 use Rattle.console.specs.Decimals.{is_digit, all_digits, value_after, decimal_answer}
 
@@ -26,20 +28,13 @@ one_more most os i v h digit small s =
       digits = sym (ap (λ (b : Bool). b && all_digits (drop (i + 1) os)) digit) ∙ sym (at_drop_more all_digits os i 0 h) ∙ s.digits;
     }
 
-and_false : (b : Bool) → (b && false) ≡ false
-and_false true = refl
-and_false false = refl
-
-over : (most n : ℕ) → most < n → leb n most ≡ false
-over most n h = search rules
-
 -- the number is too large, whatever follows
 pub refused_large : (most : ℕ) (os : List ℕ) (i v : ℕ) → i < length os → most < v * 10 + (get_or os i 0 - 48) → Sofar most os i v → decimal_answer most os ≡ None
 refused_large most os i v h large s =
     let e = sym (at_drop_more (value_after v) os i 0 h) ∙ s.value in
     let g = value_ge (v * 10 + (get_or os i 0 - 48)) (drop (i + 1) os) in
     refused (eqb (length os) 0) (all_digits os) (leb (value_after 0 os) most) (value_after 0 os)
-    (ap (λ (b : Bool). all_digits os && b) (over most (value_after 0 os) (omega arith)) ∙ and_false (all_digits os))
+    (ap (λ (b : Bool). all_digits os && b) (lt-leb (value_after 0 os) most (omega arith)) ∙ and-false (all_digits os))
 
 -- all are read
 pub all_read : (most : ℕ) (os : List ℕ) (i v : ℕ) → length os ≤ i → 0 < length os → Sofar most os i v → decimal_answer most os ≡ Some v

@@ -46,6 +46,7 @@ impl<L: Line> Line for Watched<'_, L> {
         answer
     }
 
+    // Way by way, since a loop's invariant would have to say again what the line means.
     fn tick(&mut self) {
         let one = self.line.count(Way::One);
         let two = self.line.count(Way::Two);
