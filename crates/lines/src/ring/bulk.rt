@@ -39,6 +39,7 @@ impl<E: Blank> Ring<'_, E> {
     }
 
     // Copies a run out, from a place on, as many as `out` takes; answers no and writes nothing where it holds fewer.
+    // A `Result` would be no plainer: nobody passes the no on as a refusal.
     pub fn peek(&self, from: usize, out: &mut [E]) -> bool
         ensures fits { result ≡ nat_le (from + length out.old) (length (held self.now)) }
         ensures gives { out.new ≡ (if result then take (length out.old) (drop from (held self.now)) else out.old) }
@@ -56,6 +57,7 @@ impl<E: Blank> Ring<'_, E> {
     }
 
     // Writes a run over what it holds, from a place on; answers no and writes nothing where it holds fewer.
+    // A `Result` would be no plainer, as in `peek`.
     pub fn poke(&mut self, from: usize, run: &[E]) -> bool
         ensures fits { result ≡ nat_le (from + length run.now) (length (held self.old)) }
         ensures holds { held self.new ≡ (if result then laid (held self.old) from run.now else held self.old) }
