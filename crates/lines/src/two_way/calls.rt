@@ -1,4 +1,5 @@
 // The calls of a line of two stores. Stores that make no line, as those of the dead line, mean the dead line.
+// The stores differ in their types, since their memories are lent for times of their own: so each call picks its store by a match.
 ghost use Rattle.std.specs.Prelude.{◌≡◌, map, is_ok, if◌then◌else◌};
 ghost use Rattle.frames.specs.declared.way.Way.TheVariants.{One, Two};
 ghost use Rattle.lines.specs.Line.{strike_answer, strike_leaves};
