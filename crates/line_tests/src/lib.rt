@@ -2,12 +2,15 @@
 #![tactic(auto)]
 
 #[cfg(test)]
+mod equal;
+#[cfg(test)]
 mod rings;
 
 #[cfg(test)]
 mod tests {
+    use crate::equal::same;
     use frames::{Burst, FrameRefusal, Kind, Parts, Way};
-    use lines::{Blank, Line, LineRefusal, OctetLine, Record, Ring, TableLine};
+    use lines::{Blank, Line, LineRefusal, OctetLine, Record, Ring, RingFull, TableLine};
     use std::process::Abort;
     use std::test::Fail;
 
@@ -38,44 +41,51 @@ mod tests {
 
     // Frames come out in the order they were put, each on its own way.
     fn in_order<L: Line>(rt: &impl Abort, line: &mut L) -> Result<(), Fail> {
-        assert_eq!(rt; line.put(Way::One, block(0, &[10])), Ok(()));
-        assert_eq!(rt; line.put(Way::One, block(1, &[11])), Ok(()));
-        assert_eq!(rt; line.put(Way::Two, Parts::plain(Kind::Ua)), Ok(()));
-        assert_eq!(rt; line.count(Way::One), 2);
-        assert_eq!(rt; line.count(Way::Two), 1);
+        same(rt, line.put(Way::One, block(0, &[10])), Ok(()));
+        same(rt, line.put(Way::One, block(1, &[11])), Ok(()));
+        same(rt, line.put(Way::Two, Parts::plain(Kind::Ua)), Ok(()));
+        same(rt, line.count(Way::One), 2);
+        same(rt, line.count(Way::Two), 1);
         takes(rt, line, Way::One, block(0, &[10]))?;
         takes(rt, line, Way::One, block(1, &[11]))?;
         takes(rt, line, Way::Two, Parts::plain(Kind::Ua))?;
-        assert_eq!(rt; line.take(Way::One).err(), Some(LineRefusal::Idle));
-        assert_eq!(rt; line.take(Way::Two).err(), Some(LineRefusal::Idle));
+        same(rt, line.take(Way::One).err(), Some(LineRefusal::Idle));
+        same(rt, line.take(Way::Two).err(), Some(LineRefusal::Idle));
         Ok(())
     }
 
     // A ninth frame is refused where K is 8, what writing refuses is refused first, and the other way has room.
     fn full<L: Line>(rt: &impl Abort, line: &mut L) -> Result<(), Fail> {
         for i in 0..8 {
-            assert_eq!(rt; line.put(Way::One, block(0, &[i])), Ok(()));
+            same(rt, line.put(Way::One, block(0, &[i])), Ok(()));
         }
-        assert_eq!(rt; line.put(Way::One, block(0, &[8])), Err(LineRefusal::Full));
+        same(
+            rt,
+            line.put(Way::One, block(0, &[8])),
+            Err(LineRefusal::Full),
+        );
         let ua = Parts::plain(Kind::Ua);
-        assert_eq!(rt;
+        same(
+            rt,
             line.put(Way::One, ua),
-            Err(LineRefusal::Frame(FrameRefusal::Control))
+            Err(LineRefusal::Frame(FrameRefusal::Control)),
         );
         let stray = Parts {
             info: &[1],
             ..Parts::plain(Kind::Rr)
         };
-        assert_eq!(rt;
+        same(
+            rt,
             line.put(Way::One, stray),
-            Err(LineRefusal::Frame(FrameRefusal::Stray))
+            Err(LineRefusal::Frame(FrameRefusal::Stray)),
         );
         let long = block(0, &[0; 65]);
-        assert_eq!(rt;
+        same(
+            rt,
             line.put(Way::One, long),
-            Err(LineRefusal::Frame(FrameRefusal::Long))
+            Err(LineRefusal::Frame(FrameRefusal::Long)),
         );
-        assert_eq!(rt; line.count(Way::One), 8);
+        same(rt, line.count(Way::One), 8);
         let longest = Parts {
             kind: Kind::I,
             ns: 7,
@@ -83,98 +93,111 @@ mod tests {
             b: 1,
             info: &[9; 64],
         };
-        assert_eq!(rt; line.put(Way::Two, longest), Ok(()));
+        same(rt, line.put(Way::Two, longest), Ok(()));
         takes(rt, line, Way::Two, longest)
     }
 
     // The refusals of a strike in their order, and what a struck entry then gives.
     fn struck<L: Line>(rt: &impl Abort, line: &mut L) -> Result<(), Fail> {
-        assert_eq!(rt;
+        same(
+            rt,
             line.strike(Way::One, 0, burst(17, 0)),
-            Err(LineRefusal::NoEntry)
+            Err(LineRefusal::NoEntry),
         );
-        assert_eq!(rt; line.put(Way::One, Parts::plain(Kind::Sarm)), Ok(()));
-        assert_eq!(rt; line.put(Way::One, block(3, &[33])), Ok(()));
-        assert_eq!(rt;
+        same(rt, line.put(Way::One, Parts::plain(Kind::Sarm)), Ok(()));
+        same(rt, line.put(Way::One, block(3, &[33])), Ok(()));
+        same(
+            rt,
             line.strike(Way::One, 2, burst(0, 1)),
-            Err(LineRefusal::NoEntry)
+            Err(LineRefusal::NoEntry),
         );
-        assert_eq!(rt;
+        same(
+            rt,
             line.strike(Way::One, usize::MAX, burst(0, 1)),
-            Err(LineRefusal::NoEntry)
+            Err(LineRefusal::NoEntry),
         );
-        assert_eq!(rt;
+        same(
+            rt,
             line.strike(Way::One, 0, burst(17, 0)),
-            Err(LineRefusal::NoMask)
+            Err(LineRefusal::NoMask),
         );
-        assert_eq!(rt;
+        same(
+            rt,
             line.strike(Way::One, 0, burst(17, 1)),
-            Err(LineRefusal::OffFrame)
+            Err(LineRefusal::OffFrame),
         );
-        assert_eq!(rt;
+        same(
+            rt,
             line.strike(Way::One, 0, burst(usize::MAX, 1)),
-            Err(LineRefusal::OffFrame)
+            Err(LineRefusal::OffFrame),
         );
-        assert_eq!(rt; line.strike(Way::One, 0, burst(16, 0x8000)), Ok(()));
-        assert_eq!(rt;
+        same(rt, line.strike(Way::One, 0, burst(16, 0x8000)), Ok(()));
+        same(
+            rt,
             line.strike(Way::One, 0, burst(17, 0)),
-            Err(LineRefusal::Struck)
+            Err(LineRefusal::Struck),
         );
-        assert_eq!(rt; line.count(Way::One), 2);
-        assert_eq!(rt; line.take(Way::One).err(), Some(LineRefusal::Damaged));
-        assert_eq!(rt;
+        same(rt, line.count(Way::One), 2);
+        same(rt, line.take(Way::One).err(), Some(LineRefusal::Damaged));
+        same(
+            rt,
             line.strike(Way::One, 0, burst(25, 1)),
-            Err(LineRefusal::OffFrame)
+            Err(LineRefusal::OffFrame),
         );
         takes(rt, line, Way::One, block(3, &[33]))
     }
 
     // At D = 2 an entry stands for two ticks, struck or not, and a younger one stands longer.
     fn ageing<L: Line>(rt: &impl Abort, line: &mut L) -> Result<(), Fail> {
-        assert_eq!(rt; line.put(Way::One, block(0, &[1])), Ok(()));
-        assert_eq!(rt; line.put(Way::Two, Parts::plain(Kind::Dm)), Ok(()));
-        assert_eq!(rt; line.strike(Way::Two, 0, burst(3, 0x0101)), Ok(()));
+        same(rt, line.put(Way::One, block(0, &[1])), Ok(()));
+        same(rt, line.put(Way::Two, Parts::plain(Kind::Dm)), Ok(()));
+        same(rt, line.strike(Way::Two, 0, burst(3, 0x0101)), Ok(()));
         line.tick();
-        assert_eq!(rt; line.put(Way::One, block(1, &[2])), Ok(()));
+        same(rt, line.put(Way::One, block(1, &[2])), Ok(()));
         line.tick();
-        assert_eq!(rt; line.count(Way::One), 2);
-        assert_eq!(rt; line.count(Way::Two), 1);
+        same(rt, line.count(Way::One), 2);
+        same(rt, line.count(Way::Two), 1);
         line.tick();
-        assert_eq!(rt; line.count(Way::One), 1);
-        assert_eq!(rt; line.count(Way::Two), 0);
+        same(rt, line.count(Way::One), 1);
+        same(rt, line.count(Way::Two), 0);
         takes(rt, line, Way::One, block(1, &[2]))
     }
 
     // The line goes round its memory many times.
     fn round<L: Line>(rt: &impl Abort, line: &mut L) -> Result<(), Fail> {
         for i in 0..30 {
-            assert_eq!(rt; line.put(Way::Two, block(i % 8, &[i])), Ok(()));
-            assert_eq!(rt; line.put(Way::Two, block(i % 8, &[i])), Ok(()));
+            same(rt, line.put(Way::Two, block(i % 8, &[i])), Ok(()));
+            same(rt, line.put(Way::Two, block(i % 8, &[i])), Ok(()));
             line.tick();
             takes(rt, line, Way::Two, block(i % 8, &[i]))?;
             takes(rt, line, Way::Two, block(i % 8, &[i]))?;
         }
-        assert_eq!(rt; line.count(Way::Two), 0);
+        same(rt, line.count(Way::Two), 0);
         Ok(())
     }
 
     // A line that was refused holds nothing and takes nothing in.
     fn dead<L: Line>(rt: &impl Abort, line: &mut L) {
-        assert_eq!(rt; line.capacity(), 0);
-        assert_eq!(rt; line.lifetime(), 1);
-        assert_eq!(rt; line.put(Way::One, block(0, &[1])), Err(LineRefusal::Full));
-        assert_eq!(rt; line.take(Way::One).err(), Some(LineRefusal::Idle));
-        line.tick();
-        assert_eq!(rt;
-            line.strike(Way::Two, 0, burst(0, 1)),
-            Err(LineRefusal::NoEntry)
+        same(rt, line.capacity(), 0);
+        same(rt, line.lifetime(), 1);
+        same(
+            rt,
+            line.put(Way::One, block(0, &[1])),
+            Err(LineRefusal::Full),
         );
-        assert_eq!(rt; line.count(Way::Two), 0);
+        same(rt, line.take(Way::One).err(), Some(LineRefusal::Idle));
+        line.tick();
+        same(
+            rt,
+            line.strike(Way::Two, 0, burst(0, 1)),
+            Err(LineRefusal::NoEntry),
+        );
+        same(rt, line.count(Way::Two), 0);
     }
 
     fn all<L: Line>(rt: &impl Abort, line: &mut L) -> Result<(), Fail> {
-        assert_eq!(rt; line.capacity(), 8);
-        assert_eq!(rt; line.lifetime(), 2);
+        same(rt, line.capacity(), 8);
+        same(rt, line.lifetime(), 2);
         in_order(rt, line)?;
         struck(rt, line)?;
         ageing(rt, line)?;
@@ -255,23 +278,23 @@ mod tests {
     fn ring(rt: HostRuntime) {
         let mut memory = [9; 7];
         let mut ring = Ring::make(&mut memory, 5);
-        assert_eq!(rt; ring.size(), 5);
-        assert!(rt; ring.push_all(&[1, 2, 3, 4]));
-        assert!(rt; !ring.push_all(&[5, 6]));
+        same(&rt, ring.size(), 5);
+        same(&rt, ring.push_all(&[1, 2, 3, 4]), Ok(()));
+        same(&rt, ring.push_all(&[5, 6]), Err(RingFull));
         ring.shed(3);
-        assert!(rt; ring.push_all(&[5, 6, 7, 8]));
-        assert!(rt; !ring.push(9));
+        same(&rt, ring.push_all(&[5, 6, 7, 8]), Ok(()));
+        same(&rt, ring.push(9), Err(RingFull));
         let mut out = [0; 3];
         assert!(rt; ring.peek(1, &mut out));
-        assert_eq!(rt; out, [5, 6, 7]);
+        same(&rt, out, [5, 6, 7]);
         assert!(rt; !ring.peek(3, &mut out));
         assert!(rt; ring.poke(2, &[60, 70]));
         assert!(rt; !ring.poke(4, &[80, 90]));
         ring.replace(4, 88);
-        assert_eq!(rt; ring.get(3), Some(70));
-        assert_eq!(rt; ring.pop(), Some(4));
-        assert_eq!(rt; ring.pop(), Some(5));
-        assert_eq!(rt; ring.len(), 3);
+        same(&rt, ring.get(3), Some(70));
+        same(&rt, ring.pop(), Some(4));
+        same(&rt, ring.pop(), Some(5));
+        same(&rt, ring.len(), 3);
         assert!(rt; memory[0] == 60 && memory[3] == 0 && memory[4] == 0);
         assert_eq!(rt; &memory[5..7], &[9, 9][..]);
     }

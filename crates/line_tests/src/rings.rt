@@ -1,5 +1,6 @@
 // A ring of octets, call by call.
-use lines::Ring;
+use crate::equal::same;
+use lines::{Ring, RingFull};
 
 // Two octets from a place on, none where the ring does not hold both.
 fn pair(ring: &Ring<'_, u8>, from: usize) -> Option<[u8; 2]> {
@@ -13,30 +14,30 @@ fn pair(ring: &Ring<'_, u8>, from: usize) -> Option<[u8; 2]> {
 fn ring_by_a_table(rt: HostRuntime) {
     let mut memory = [9; 7];
     let mut ring = Ring::make(&mut memory, 5);
-    assert_eq!(rt; ring.size(), 5);
-    assert!(rt; ring.push_all(&[1, 2]));
-    assert!(rt; ring.push_all(&[3, 4]));
-    assert!(rt; !ring.push_all(&[5, 6]));
+    same(&rt, ring.size(), 5);
+    same(&rt, ring.push_all(&[1, 2]), Ok(()));
+    same(&rt, ring.push_all(&[3, 4]), Ok(()));
+    same(&rt, ring.push_all(&[5, 6]), Err(RingFull));
     ring.shed(3);
-    assert!(rt; ring.push_all(&[5, 6]));
-    assert!(rt; ring.push_all(&[7, 8]));
-    assert!(rt; !ring.push(9));
-    assert_eq!(rt; pair(&ring, 1), Some([5, 6]));
-    assert_eq!(rt; pair(&ring, 3), Some([7, 8]));
-    assert_eq!(rt; pair(&ring, 4), None);
+    same(&rt, ring.push_all(&[5, 6]), Ok(()));
+    same(&rt, ring.push_all(&[7, 8]), Ok(()));
+    same(&rt, ring.push(9), Err(RingFull));
+    same(&rt, pair(&ring, 1), Some([5, 6]));
+    same(&rt, pair(&ring, 3), Some([7, 8]));
+    same(&rt, pair(&ring, 4), None);
     assert!(rt; ring.poke(2, &[60, 70]));
     assert!(rt; !ring.poke(4, &[80, 90]));
     ring.replace(4, 88);
     ring.replace(5, 99);
-    assert_eq!(rt; ring.get(3), Some(70));
-    assert_eq!(rt; ring.get(5), None);
-    assert_eq!(rt; ring.pop(), Some(4));
-    assert_eq!(rt; ring.pop(), Some(5));
-    assert_eq!(rt; ring.len(), 3);
-    assert!(rt; ring.push(11));
+    same(&rt, ring.get(3), Some(70));
+    same(&rt, ring.get(5), None);
+    same(&rt, ring.pop(), Some(4));
+    same(&rt, ring.pop(), Some(5));
+    same(&rt, ring.len(), 3);
+    same(&rt, ring.push(11), Ok(()));
     ring.shed(2);
-    assert_eq!(rt; ring.len(), 2);
-    assert_eq!(rt; ring.get(1), Some(11));
+    same(&rt, ring.len(), 2);
+    same(&rt, ring.get(1), Some(11));
     assert_eq!(rt; memory, [0, 0, 88, 11, 0, 9, 9]);
 }
 
