@@ -43,6 +43,7 @@ pub struct Connection {
     closed: usize,
     older: Outcome,
     newer: Outcome,
+    // Beside the ticks, which are shown whether it was whole or not.
     pub whole: bool,
 }
 

@@ -27,6 +27,7 @@ pub struct Note {
     pub b: u8,
     pub length: usize,
     pub tick: usize,
+    // Beside the fate, since a struck frame stands, is taken or ages as any other.
     pub struck: bool,
     pub fate: Fate,
 }

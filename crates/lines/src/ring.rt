@@ -4,7 +4,8 @@ ghost use Rattle.std.specs.Prelude.{◌≡◌, ◌≤◌, length};
 mod bulk;
 mod calls;
 
-// An element that a slot can hold, and the one that stands for nothing.
+// An element that a slot can hold, and the one that stands for nothing. (`Default` of the library says what holds of its
+// value, and not which it is.)
 pub trait Blank: Copy {
     ghost bare: { Self };
 
@@ -25,6 +26,8 @@ impl Blank for u8 {
 pub struct RingFull;
 
 // The slots are the first `cap` of the memory; place 0 lies in slot `first`, and `count` places are held.
+// `cap` stands beside the whole memory: a ring that is lent just its slots was tried, and no proof closed of what making it
+// leaves of the rest. So that the rest stays is a clause of every call.
 #[derive(Drop)]
 pub struct Ring<'a, E: Copy> {
     slots: &'a mut [E],

@@ -28,7 +28,8 @@ impl Add for Counts {
     }
 }
 
-// What the number rule found: the blocks acknowledged to the station, and whether it took the frame's block in.
+// What the number rule found: the blocks acknowledged to the station, and whether it took the frame's block in. (An Option
+// would be no plainer: blocks are acknowledged whether one is taken in or not.)
 #[derive(Clone, Copy, PartialEq, Eq, Debug)]
 pub struct Heard {
     pub acknowledged: usize,

@@ -77,7 +77,8 @@ impl Secondary {
         deliver(line, Way::Two, self.station.status()) + self.station.again(line, Way::Two)
     }
 
-    // RR or RNR when open: the number rule, and the answer to a poll.
+    // RR or RNR when open: the number rule, and the answer to a poll. (What it shares with the primary's is
+    // `Station::hear_status`; a poll and a final are answered by rules of their own.)
     fn hear_status<L: Line>(
         &mut self,
         far: FarStatus,
