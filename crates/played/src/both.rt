@@ -7,7 +7,7 @@ const D: usize = 2;
 
 const OCTETS: usize = 72 * K;
 
-// A case that can be played over every line.
+// A case that can be played over every line. (A closure would be of one kind of line alone.)
 pub trait Case {
     // Whether it comes out as it should over a new line.
     fn holds<L: Line + Drop>(line: L) -> bool;
