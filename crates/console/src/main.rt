@@ -26,7 +26,7 @@ use std::process::ExitCode;
 fn run(rt: &HostRuntime) -> io::Result<bool> {
     let mut session = Session::new(rt)?;
     let mut wanted = serve_nothing(&mut session)?;
-    // A loop without an end of its own has this form.
+    // A bounded loop, since of a `while let` there would be no proof that it ends.
     for _ in 0..u64::MAX {
         let Some(setup) = wanted else {
             break;

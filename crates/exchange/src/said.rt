@@ -1,7 +1,7 @@
 // Answers in the report.
 use std::fmt;
 
-// An answer to a question, written as yes or no.
+// An answer to a question, written as yes or no. (As in the console: two programs share no crate but the libraries.)
 #[derive(Clone, Copy)]
 pub struct Answer(pub bool);
 

@@ -40,7 +40,8 @@ impl FrameRefusal {
     }
 }
 
-// A refusal is shown by its word.
+// A refusal is shown by its word. (Each layer says so of its own refusals: one impl for all would stand neither with the
+// trait nor with the type.)
 impl fmt::Display for FrameRefusal {
     ghost output = { λ r. Some (word_of r) };
 

@@ -15,9 +15,7 @@ pub fn admit(way: Way, frame: Parts<'_>) -> Result<u8, FrameRefusal>
     if frame.info.len() > 64 {
         return Err(FrameRefusal::Long);
     }
-    let Some(control) = control_of(way, frame) else {
-        return Err(FrameRefusal::Control);
-    };
+    let control = control_of(way, frame).ok_or(FrameRefusal::Control)?;
     if frame.kind != Kind::I && !frame.info.is_empty() {
         return Err(FrameRefusal::Stray);
     }

@@ -28,7 +28,8 @@ pub trait Line {
         ensures leaves { meaning self.new ≡ take_leaves (meaning self.old) way }
         ensures keeps { beyond self.new ≡ beyond self.old };
 
-    // A burst of up to sixteen bits strikes the entry at a place (0 is the oldest).
+    // A burst of up to sixteen bits strikes the entry at a place (0 is the oldest). Way and place stay two parameters: the way
+    // picks the store, and the place goes on to it.
     fn strike(&mut self, way: Way, place: usize, burst: Burst) -> Result<(), LineRefusal>
         ensures answers { result ≡ strike_answer (meaning self.old) way place burst.start burst.mask }
         ensures leaves { meaning self.new ≡ strike_leaves (meaning self.old) way place burst.start burst.mask }
@@ -39,7 +40,8 @@ pub trait Line {
         ensures leaves { meaning self.new ≡ tick_leaves (meaning self.old) }
         ensures keeps { beyond self.new ≡ beyond self.old };
 
-    // How many entries a way holds.
+    // How many entries a way holds. (The bounds are a clause of each question and no law: a proof would have to cite a law,
+    // where a clause is at hand.)
     fn count(&self, way: Way) -> usize
         ensures answers { result ≡ length (on way (meaning self.now)) }
         ensures bounds { Bounded (meaning self.now) };

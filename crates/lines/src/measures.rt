@@ -5,6 +5,8 @@ ghost use Rattle.lines.specs.Stored.{fit};
 
 use crate::LineRefusal;
 
+// K, D and the two lengths stay parameters and make no struct, since checking and making are called with them.
+
 // Whether a line can be made with these measures, where its memory has room for so many entries a way.
 pub(crate) fn check(k: usize, d: usize, one: usize, two: usize) -> Result<(), LineRefusal>
     ensures { result ≡ check_answer k d one two }

@@ -18,6 +18,7 @@ impl Blank for Record {
     ghost bare = { blank_record };
 
     fn blank() -> Record {
+        // A literal, since it cannot fail as a conversion of parts can.
         let frame = FrameBuf {
             kind: Kind::Ua,
             ns: 0,

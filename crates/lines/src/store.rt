@@ -25,6 +25,8 @@ pub trait Store: Drop {
 
     ghost rest: { Self → Rest };
 
+    // That places and rest stay is a clause of each call and no invariant: it speaks of before and after.
+
     // For how many entries it has room.
     fn room(&self) -> usize
         ensures { result ≡ places self.now };

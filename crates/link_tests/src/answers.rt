@@ -8,6 +8,8 @@ use stations::{Counts, Taken};
 use std::fmt::Debug;
 use std::process::Abort;
 
+// These and `heeds` stand in the program that plays cases too: it and the tests share no crate but the libraries.
+
 // So many frames are put, and none is lost.
 pub(crate) fn puts(put: usize) -> Result<Counts, LinkRefusal> {
     Ok(Counts { put, lost: 0 })
@@ -62,7 +64,7 @@ pub(crate) fn send(end: End, octet: u8) -> Call {
     Call::Send(end, Block::of(&[octet]).unwrap())
 }
 
-// One call of a list, and the frames that it put and lost.
+// One call of a list, and the frames that it put and lost. A value, since these calls are what `play` takes.
 pub(crate) fn ask<L: Line>(link: &mut Link<L>, call: Call) -> Result<Counts, LinkRefusal> {
     match call {
         Call::Open => link.open(),
@@ -80,6 +82,8 @@ pub(crate) fn ask<L: Line>(link: &mut Link<L>, call: Call) -> Result<Counts, Lin
 pub(crate) fn same<T: PartialEq + Debug + Drop>(rt: &impl Abort, answer: T, expected: T) {
     assert_eq!(rt; answer, expected);
 }
+
+// Three functions, and no `repeat` that takes a closure: tried, and it takes the proof twice as long.
 
 // So many ticks, each of which puts nothing.
 pub(crate) fn ticks<L: Line>(rt: &impl Abort, link: &mut Link<L>, times: usize) {

@@ -124,7 +124,7 @@ fn refusals_of_an_open_link(rt: HostRuntime) {
     on_a_link(|link| open(&rt, link));
 }
 
-// RR or RNR from the secondary with this N(R).
+// RR or RNR from the secondary with this N(R). (A literal, since it cannot fail as a conversion of parts can.)
 fn status(kind: Kind, nr: u8) -> FrameBuf {
     FrameBuf {
         kind,

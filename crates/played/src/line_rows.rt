@@ -15,7 +15,7 @@ impl Case for PollTimer {
     }
 }
 
-// A frame of the secondary that has no information.
+// A frame of the secondary that has no information. (A literal, since it cannot fail as a conversion of parts can.)
 fn from_secondary(kind: Kind, nr: u8) -> FrameBuf {
     FrameBuf {
         kind,

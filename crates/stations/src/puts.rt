@@ -19,6 +19,7 @@ pub(crate) fn deliver<L: Line>(line: &mut L, way: Way, frame: Parts<'_>) -> Coun
     ensures leaves { L.Line.meaning line.new ≡ with_way way (put (L.Line.meaning line.old).capacity (on way (L.Line.meaning line.old)) (given frame.entry)) (L.Line.meaning line.old) }
     ensures keeps { L.Line.beyond line.new ≡ L.Line.beyond line.old }
 {
+    // A match, since either answer has its count and none is handed on.
     match line.put(way, frame) {
         Ok(_) => Counts { put: 1, lost: 0 },
         Err(_) => Counts { put: 0, lost: 1 },

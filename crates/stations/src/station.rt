@@ -15,6 +15,7 @@ pub enum FarStatus {
     Busy,
 }
 
+// No `impl Model`, for the reason at `Row`, which it holds twice.
 #[derive(Clone, Copy)]
 pub struct Station {
     vs: Number,

@@ -15,6 +15,7 @@ impl<'a, 'b> OctetLine<'a, 'b> {
         measures::check(k, d, one / 72, two / 72)
     }
 
+    // (The two makings differ in the types of memory and stores: one for both would take them as parameters.)
     // An empty line whose octets are all zero. Where `check` refuses, a dead line that leaves its memory as it is.
     #[tactic(auto, using(crate::proofs::Stores::made_line))]
     pub fn make(k: usize, d: usize, one: &'a mut [u8], two: &'b mut [u8]) -> OctetLine<'a, 'b>

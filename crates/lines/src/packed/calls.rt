@@ -19,6 +19,8 @@ impl Stored for Packed {
         Ok(Packed { octets })
     }
 
+    // The length's test and the read stand here and in `strike`: one call for both would be no plainer, since of what was read
+    // each needs other facts.
     fn unpack(&self, way: Way) -> Option<FrameBuf> {
         let n = self.octets[0] as usize;
         if n > 68 {

@@ -85,9 +85,9 @@ impl<L: Line> Link<L> {
         ensures keeps { L.Line.beyond self.new.line ≡ L.Line.beyond self.old.line }
     {
         self.checked?;
-        match self.primary.mode() {
-            Mode::Open => Ok(self.drain_open()),
-            _ => Err(LinkRefusal::Station(StationRefusal::Mode)),
+        if self.primary.mode() != Mode::Open {
+            return Err(StationRefusal::Mode.into());
         }
+        Ok(self.drain_open())
     }
 }

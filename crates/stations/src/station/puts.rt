@@ -15,6 +15,13 @@ use frames::{Kind, Parts, Way};
 use lines::Line;
 
 impl Station {
+    // V(R): the N(S) that is expected next.
+    fn expected(&self) -> u8
+        ensures { result ≡ (station_of self.now).vr }
+    {
+        self.vr.get()
+    }
+
     // Its own status as a poll or a final.
     pub(crate) fn status(&self) -> Parts<'static>
         ensures { given result ≡ status (station_of self.now) }
@@ -22,7 +29,7 @@ impl Station {
         Parts {
             kind: self.own_status(),
             ns: 0,
-            nr: self.vr.get(),
+            nr: self.expected(),
             b: 1,
             info: &[],
         }
@@ -35,7 +42,7 @@ impl Station {
         Parts {
             kind: Kind::I,
             ns: ns.get(),
-            nr: self.vr.get(),
+            nr: self.expected(),
             b: 0,
             info: block,
         }
