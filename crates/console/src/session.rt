@@ -80,6 +80,7 @@ impl Session {
                 Ok(Some(Command::Stand(setup))) => return Ok(Some(setup)),
                 Ok(Some(Command::Frame(command))) => Ok(frame_answer(heap, command)?),
                 Ok(Some(Command::Other)) => standing(heap, text),
+                // Handed on in an arm, since a function with `?` could not end the loop as the arms above do.
                 Err(error) => Err(error),
             };
             self.replies.reply(answer)?;

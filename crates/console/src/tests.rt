@@ -37,7 +37,7 @@ fn told(heap: Global, answer: Result<String, CommandError>) -> Result<String, Fa
     Ok(format!(in heap; "{mark}{text}")?)
 }
 
-// The same where nothing stands, `.` for no answer.
+// The same where nothing stands, `.` for no answer. (A session takes a line apart so too, but reads it from the input.)
 fn told_alone(heap: Global, line: &[u8]) -> Result<String, Fail> {
     match parse(heap, line) {
         Ok(None) => Ok(String::from_str(heap, ".")?),
