@@ -1,13 +1,9 @@
 -- A decimal number is read digit by digit.
-use Rattle.std.proofs.Common.{◌≡◌, ℕ, ◌+◌, ◌-◌, ◌*◌, ◌<◌, ◌≤◌, Bool, true, false, cond, not, ◌&&◌, eqb, leb, ◌⊎◌, List, [], ◌∷◌, length, get_or, drop, Some, None, Option, sym, refl, ap, ◌∙◌, ap₂, arith, rules, le-leb}
-use Rattle.std.proofs.lemmas.List.{at_drop_more, at_drop_all}
-use Rattle.console.specs.Decimals.{is_digit, all_digits, value_after, decimal_answer}
-
-pub is_digit_of : (o : ℕ) → 48 ≤ o → o ≤ 57 → is_digit o ≡ true
-is_digit_of o h k = search rules
-
-pub no_digit_of : (o : ℕ) → (o < 48) ⊎ (57 < o) → is_digit o ≡ false
-no_digit_of o h = search rules
+use Rattle.std.proofs.Common.{◌≡◌, ℕ, ◌+◌, ◌-◌, ◌*◌, ◌<◌, ◌≤◌, Bool, true, false, cond, not, ◌&&◌, eqb, leb, List, [], ◌∷◌, length, get_or, drop, Some, None, Option, sym, refl, ap, ◌∙◌, arith}
+use Rattle.std.proofs.Math.Bool.{and-false}
+use Rattle.std.proofs.lemmas.Bool.{lt-leb}
+use Rattle.std.proofs.lemmas.List.{at_drop_more}
+use Rattle.console.specs.Decimals.{all_digits, value_after, decimal_answer}
 
 -- the digits that are left decide what all decide
 pub record Sofar (most : ℕ) (os : List ℕ) (i v : ℕ) : Type 0 where
@@ -23,44 +19,10 @@ refused : (e d l : Bool) (v : ℕ) → (d && l) ≡ false → cond {A = Option �
 refused true d l v h = refl
 refused false d l v h = ap (λ (b : Bool). cond b (Some v) None) h
 
--- an octet that is no digit
-pub refused_digit : (most : ℕ) (os : List ℕ) (i v : ℕ) → i < length os → (get_or os i 0 < 48) ⊎ (57 < get_or os i 0) → Sofar most os i v → decimal_answer most os ≡ None
-refused_digit most os i v h t s =
-    let d : all_digits os ≡ false = sym s.digits ∙ at_drop_more all_digits os i 0 h ∙ ap (λ (b : Bool). b && all_digits (drop (i + 1) os)) (no_digit_of (get_or os i 0) t) in
-    refused (eqb (length os) 0) (all_digits os) (leb (value_after 0 os) most) (value_after 0 os) (ap (λ (b : Bool). b && leb (value_after 0 os) most) d)
-
--- one digit more
-pub one_more : (most : ℕ) (os : List ℕ) (i v : ℕ) → i < length os → 48 ≤ get_or os i 0 → get_or os i 0 ≤ 57 → v * 10 + (get_or os i 0 - 48) ≤ most → Sofar most os i v → Sofar most os (i + 1) (v * 10 + (get_or os i 0 - 48))
-one_more most os i v h low high small s =
-    record {
-      small = small;
-      value = sym (at_drop_more (value_after v) os i 0 h) ∙ s.value;
-      digits = sym (ap (λ (b : Bool). b && all_digits (drop (i + 1) os)) (is_digit_of (get_or os i 0) low high)) ∙ sym (at_drop_more all_digits os i 0 h) ∙ s.digits;
-    }
-
-and_false : (b : Bool) → (b && false) ≡ false
-and_false true = refl
-and_false false = refl
-
-over : (most n : ℕ) → most < n → leb n most ≡ false
-over most n h = search rules
-
 -- the number is too large, whatever follows
 pub refused_large : (most : ℕ) (os : List ℕ) (i v : ℕ) → i < length os → most < v * 10 + (get_or os i 0 - 48) → Sofar most os i v → decimal_answer most os ≡ None
 refused_large most os i v h large s =
     let e = sym (at_drop_more (value_after v) os i 0 h) ∙ s.value in
     let g = value_ge (v * 10 + (get_or os i 0 - 48)) (drop (i + 1) os) in
     refused (eqb (length os) 0) (all_digits os) (leb (value_after 0 os) most) (value_after 0 os)
-    (ap (λ (b : Bool). all_digits os && b) (over most (value_after 0 os) (omega arith)) ∙ and_false (all_digits os))
-
--- all are read
-pub all_read : (most : ℕ) (os : List ℕ) (i v : ℕ) → length os ≤ i → 0 < length os → Sofar most os i v → decimal_answer most os ≡ Some v
-all_read most os i v h some s =
-    let e : v ≡ value_after 0 os = sym (at_drop_all (value_after v) os i h) ∙ s.value in
-    let d : all_digits os ≡ true = sym s.digits ∙ at_drop_all all_digits os i h in
-    let k = s.small in
-    let l : leb (value_after 0 os) most ≡ true = le-leb (value_after 0 os) most (omega arith) in
-    let z : eqb (length os) 0 ≡ false = search rules in
-    ap (λ (t : Bool). cond (not t && (all_digits os && leb (value_after 0 os) most)) (Some (value_after 0 os)) None) z
-    ∙ ap₂ (λ (b t : Bool). cond (b && t) (Some (value_after 0 os)) None) d l
-    ∙ ap Some (sym e)
+    (ap (λ (b : Bool). all_digits os && b) (lt-leb (value_after 0 os) most (omega arith)) ∙ and-false (all_digits os))

@@ -1,4 +1,3 @@
-pub mod Fronts
 pub mod Digits
 pub mod Spelling
 pub mod Texts

@@ -28,12 +28,21 @@ pub fits : (w : Way) (p : Parts) → fitted (frame_octets w p) 68 ≡ frame_octe
 fits w (parts k ns nr b info) =
     fits_unless (ltb 64 (length info)) (admit_by (control_answer w (head k ns nr b)) (stray k info)) info refl
 
+counted_at : (f : Result (List ℕ) FrameRefusal) (out : List ℕ) (n : ℕ) → Ok n ≡ counted f → f ≡ Ok (take n (laid f out))
+counted_at (Err e) out n h = absurd (let z : ◌≡◌ {A = ℕ} 0 1 = cc in omega arith)
+counted_at (Ok os) out n h =
+    let k : n ≡ length os = cc in
+    ap Ok (sym (take_at os (drop (length os) out) n (sym k)))
+
 -- the octets that were counted are the frame's
 pub written : (f g : Result (List ℕ) FrameRefusal) (out : List ℕ) (n : ℕ) → f ≡ g → Ok n ≡ counted f → g ≡ Ok (take n (laid f out))
-written (Err e) g out n same h = absurd (let z : ◌≡◌ {A = ℕ} 0 1 = cc in omega arith)
-written (Ok os) g out n same h =
-    let k : n ≡ length os = cc in
-    sym same ∙ ap Ok (sym (take_at os (drop (length os) out) n (sym k)))
+written f g out n same h = sym same ∙ counted_at f out n h
+
+-- and they are there
+pub room : (f : Result (List ℕ) FrameRefusal) (out : List ℕ) (n : ℕ) → Ok n ≡ counted f → n ≡ length (take n (laid f out))
+room f out n h =
+    let e : ◌≡◌ {A = Result ℕ FrameRefusal} (Ok n) (Ok (length (take n (laid f out)))) = h ∙ ap counted (counted_at f out n h) in
+    cc
 
 pub refused : (f g : Result (List ℕ) FrameRefusal) (e : FrameRefusal) → f ≡ g → Err e ≡ counted f → g ≡ Err e
 refused (Err d) g e same h = let k : d ≡ e = cc in sym same ∙ ap Err k

@@ -3,3 +3,4 @@ pub mod Decimals
 pub mod Hex
 pub mod Commands
 pub mod Answers
+pub mod Faults

@@ -1,25 +1,21 @@
 -- A line's words: runs of octets between ASCII white space.
-use Rattle.std.specs.Prelude.{ℕ, suc, Bool, cond, not, ◌&&◌, ◌||◌, List, [], ◌∷◌, take, drop, ◌==◌, nat_le}
+use Rattle.std.specs.Prelude.{ℕ, Bool, not, ◌&&◌, ◌||◌, List, take, drop, ◌==◌, nat_le}
+use Rattle.std.specs.List.{prefix_len}
 
 -- white space: tab, line feed, VT, FF, CR and the space
 abbrev pub white : ℕ → Bool
 white o = o == 32 || (nat_le 9 o && nat_le o 13)
 
--- how many octets at the front pass the test
-abbrev pub front : (ℕ → Bool) → List ℕ → ℕ
-front p [] = 0
-front p (o ∷ os) = cond (p o) (suc (front p os)) 0
-
 -- the octets from the first word on
 abbrev pub trimmed : List ℕ → List ℕ
-trimmed os = drop (front white os) os
+trimmed os = drop (prefix_len white os) os
 
 -- the octets at the front that are no white space, and what stands behind them
 abbrev pub solid : List ℕ → List ℕ
-solid os = take (front (λ o. not (white o)) os) os
+solid os = take (prefix_len (λ o. not (white o)) os) os
 
 abbrev pub behind : List ℕ → List ℕ
-behind os = drop (front (λ o. not (white o)) os) os
+behind os = drop (prefix_len (λ o. not (white o)) os) os
 
 -- the first word, none where all is white space, and what stands behind it
 abbrev pub first_word : List ℕ → List ℕ

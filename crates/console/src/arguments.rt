@@ -1,59 +1,50 @@
 // The words of a line, taken one at a time from the left.
 ghost use Rattle.std.specs.Prelude.{◌≡◌};
-ghost use Rattle.console.specs.Commands.{way_answer, kind_answer, end_answer};
+ghost use Rattle.console.specs.Commands.{named, way_answer, kind_answer, end_answer};
 
 use crate::decimal::{decimal, octet, pair};
+use crate::error::CommandError;
 use crate::fault::Fault;
-use crate::hex;
+use crate::octets;
 use crate::words::{is, split_word};
 use frames::{Kind, Way};
 use link::End;
 use std::alloc::Global;
 
+// What a word names in a table.
+fn named<T: Copy>(word: &[u8], table: &[(&str, T)]) -> Option<T>
+    ensures { result ≡ named word.now table.now }
+{
+    let entry = table.iter().find(|(name, _)| is(word, name));
+    entry.map(|(_, value)| *value)
+}
+
 fn way(word: &[u8]) -> Option<Way>
     ensures { result ≡ way_answer word.now }
 {
-    if is(word, "1") {
-        Some(Way::One)
-    } else if is(word, "2") {
-        Some(Way::Two)
-    } else {
-        None
-    }
+    named(word, &[("1", Way::One), ("2", Way::Two)])
 }
 
 fn kind(word: &[u8]) -> Option<Kind>
     ensures { result ≡ kind_answer word.now }
 {
-    if is(word, "I") {
-        Some(Kind::I)
-    } else if is(word, "RR") {
-        Some(Kind::Rr)
-    } else if is(word, "RNR") {
-        Some(Kind::Rnr)
-    } else if is(word, "SARM") {
-        Some(Kind::Sarm)
-    } else if is(word, "DISC") {
-        Some(Kind::Disc)
-    } else if is(word, "UA") {
-        Some(Kind::Ua)
-    } else if is(word, "DM") {
-        Some(Kind::Dm)
-    } else {
-        None
-    }
+    let kinds = [
+        ("I", Kind::I),
+        ("RR", Kind::Rr),
+        ("RNR", Kind::Rnr),
+        ("SARM", Kind::Sarm),
+        ("DISC", Kind::Disc),
+        ("UA", Kind::Ua),
+        ("DM", Kind::Dm),
+    ];
+    named(word, &kinds)
 }
 
 fn end(word: &[u8]) -> Option<End>
     ensures { result ≡ end_answer word.now }
 {
-    if is(word, "primary") {
-        Some(End::Primary)
-    } else if is(word, "secondary") {
-        Some(End::Secondary)
-    } else {
-        None
-    }
+    let ends = [("primary", End::Primary), ("secondary", End::Secondary)];
+    named(word, &ends)
 }
 
 #[derive(Drop)]
@@ -66,7 +57,7 @@ impl<'a> Arguments<'a> {
         Arguments { rest: line }
     }
 
-    // The next word, empty where there is none.
+    // The next word, empty where there is none. (An Option would be no plainer: a missing word is refused as a wrong one is.)
     pub fn word(&mut self) -> &'a [u8] {
         let (word, rest) = split_word(self.rest);
         self.rest = rest;
@@ -100,8 +91,9 @@ impl<'a> Arguments<'a> {
         decimal(self.word(), usize::MAX).ok_or(fault)
     }
 
-    pub fn octets(&mut self, heap: Global) -> Result<Vec<u8>, Fault> {
-        hex::octets(heap, self.word())?.ok_or(Fault::Octets)
+    pub fn octets(&mut self, heap: Global) -> Result<Vec<u8>, CommandError> {
+        let octets = octets::parse(heap, self.word())?;
+        Ok(octets.ok_or(Fault::Octets)?)
     }
 
     // No word may be left.

@@ -12,10 +12,10 @@ pub fn decimal(word: &[u8], most: usize) -> Option<usize>
     }
     let mut value: u128 = 0;
     for octet in word {
-        if *octet < b'0' || *octet > b'9' {
+        if !octet.is_ascii_digit() {
             return None;
         }
-        value = value * 10 + (*octet - b'0') as u128;
+        value = value * 10 + u128::from(*octet - b'0');
         if value > most as u128 {
             return None;
         }
@@ -23,22 +23,17 @@ pub fn decimal(word: &[u8], most: usize) -> Option<usize>
     Some(value as usize)
 }
 
-// A number from 0 to 255.
+// A number from 0 to 255. (One generic function for this and `pair` would be no plainer: its clause would speak of its type's
+// conversion.)
 pub fn octet(word: &[u8]) -> Option<u8>
     ensures { result ≡ decimal_answer 255 word.now }
 {
-    match decimal(word, 255) {
-        Some(value) => Some(value as u8),
-        None => None,
-    }
+    Some(decimal(word, 255)? as u8)
 }
 
 // A number from 0 to 65535.
 pub fn pair(word: &[u8]) -> Option<u16>
     ensures { result ≡ decimal_answer 65535 word.now }
 {
-    match decimal(word, 65535) {
-        Some(value) => Some(value as u16),
-        None => None,
-    }
+    Some(decimal(word, 65535)? as u16)
 }

@@ -1,5 +1,8 @@
-// What is wrong with a line that cannot be understood, or that memory for it is not to be had.
-use std::alloc::AllocError;
+// What is wrong with a line that cannot be understood.
+ghost use Rattle.std.specs.Prelude.{Some};
+ghost use Rattle.console.specs.Faults.{words_of};
+
+use std::fmt;
 
 #[derive(Clone, Copy, PartialEq, Eq, Debug)]
 pub enum Fault {
@@ -22,13 +25,13 @@ pub enum Fault {
     Start,
     Mask,
     TooMany,
-    Memory,
 }
 
-impl Fault {
-    // The fault in words.
-    pub fn words(self) -> &'static str {
-        match self {
+impl fmt::Display for Fault {
+    ghost output = { λ f. Some (words_of f) };
+
+    fn fmt<W: fmt::Write>(&self, f: &mut fmt::Formatter<W>) -> fmt::Result {
+        f.write_str(match self {
             Fault::Command => "no such command",
             Fault::NoLine => "no line stands",
             Fault::NoLink => "no link stands",
@@ -48,13 +51,6 @@ impl Fault {
             Fault::Start => "the start must be a decimal number below 2^64",
             Fault::Mask => "the mask must be a decimal number from 0 to 65535",
             Fault::TooMany => "too many words",
-            Fault::Memory => "out of memory",
-        }
-    }
-}
-
-impl From<AllocError> for Fault {
-    fn from(_error: AllocError) -> Fault {
-        Fault::Memory
+        })
     }
 }

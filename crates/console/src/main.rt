@@ -5,12 +5,14 @@ mod answer;
 mod arguments;
 mod command;
 mod decimal;
+mod error;
 mod fault;
-mod hex;
 mod line_answer;
 mod link_answer;
+mod octets;
 mod serve;
 mod session;
+mod shown;
 #[cfg(test)]
 mod tests;
 mod words;
@@ -24,6 +26,7 @@ use std::process::ExitCode;
 fn run(rt: &HostRuntime) -> io::Result<bool> {
     let mut session = Session::new(rt)?;
     let mut wanted = serve_nothing(&mut session)?;
+    // A bounded loop, since of a `while let` there would be no proof that it ends.
     for _ in 0..u64::MAX {
         let Some(setup) = wanted else {
             break;

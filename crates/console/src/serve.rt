@@ -1,11 +1,13 @@
 // Serving: a line or a link stands, and answers commands until another is to stand or the input ends.
-use crate::answer::{made_text, nothing_reply};
-use crate::command::{Setup, Store};
-use crate::line_answer::line_reply;
-use crate::link_answer::link_reply;
-use crate::session::{Session, Turn};
+use crate::command::{Setup, Store, misplaced};
+use crate::error::CommandError;
+use crate::line_answer::line_answer;
+use crate::link_answer::link_answer;
+use crate::session::Session;
+use crate::words::split_word;
 use lines::{Blank, Line, LineRefusal, OctetLine, Record, TableLine};
 use link::{Link, LinkRefusal};
+use std::alloc::Global;
 use std::io;
 
 // A line's memory has room for the largest K: so many records a way, or 72 times as many octets.
@@ -13,85 +15,41 @@ const RECORDS: usize = 64;
 
 const OCTETS: usize = 4608;
 
+// What a command is told where nothing stands.
+pub fn nothing_answer(_heap: Global, text: &[u8]) -> Result<String, CommandError> {
+    let (name, _) = split_word(text);
+    Err(misplaced(name).into())
+}
+
 // Serves while nothing stands.
 pub fn serve_nothing(session: &mut Session) -> io::Result<Option<Setup>> {
-    for _ in 0..u64::MAX {
-        match session.next()? {
-            Turn::Stop(wanted) => return Ok(wanted),
-            Turn::Answered => {}
-            Turn::Other => {
-                let reply = nothing_reply(session.heap(), session.line())?;
-                session.reply(reply)?;
-            }
-        }
-    }
-    Ok(None)
+    session.serve(nothing_answer)
 }
 
-fn serve_line<L: Line>(session: &mut Session, line: &mut L) -> io::Result<Option<Setup>> {
-    for _ in 0..u64::MAX {
-        match session.next()? {
-            Turn::Stop(wanted) => return Ok(wanted),
-            Turn::Answered => {}
-            Turn::Other => {
-                let reply = line_reply(session.heap(), session.line(), line)?;
-                session.reply(reply)?;
-            }
-        }
-    }
-    Ok(None)
-}
-
-fn serve_link<L: Line>(session: &mut Session, link: &mut Link<L>) -> io::Result<Option<Setup>> {
-    for _ in 0..u64::MAX {
-        match session.next()? {
-            Turn::Stop(wanted) => return Ok(wanted),
-            Turn::Answered => {}
-            Turn::Other => {
-                let reply = link_reply(session.heap(), session.line(), link)?;
-                session.reply(reply)?;
-            }
-        }
-    }
-    Ok(None)
-}
-
-fn show_made(session: &mut Session, made: Result<(), LinkRefusal>) -> io::Result<()> {
-    let text = made_text(session.heap(), made)?;
-    session.show(&text)
-}
-
-// Whether what is asked for can be made: the line's measures first, then the link over it.
-fn check_over<L: Line>(
-    line: &L,
-    checked: Result<(), LineRefusal>,
-    limit: Option<usize>,
-) -> Result<(), LinkRefusal> {
-    checked?;
-    match limit {
-        None => Ok(()),
-        Some(limit) => Link::check(line, limit),
-    }
-}
-
-// Serves over a line that was made, also where its check refused it: by itself, or under a link.
+// Serves over a line that was made, also where its check refused it: by itself, or under a link. Whether it can be made is
+// told first: of the line's measures, then of the link over it.
 fn serve_over<L: Line + Drop>(
     session: &mut Session,
     mut line: L,
     checked: Result<(), LineRefusal>,
     limit: Option<usize>,
 ) -> io::Result<Option<Setup>> {
-    let made = check_over(&line, checked, limit);
-    show_made(session, made)?;
+    let checked = checked.map_err(LinkRefusal::from);
     match limit {
-        None => serve_line(session, &mut line),
+        None => {
+            session.made(checked)?;
+            session.serve(|heap, text| line_answer(heap, text, &mut line))
+        }
         Some(limit) => {
+            session.made(checked.and_then(|_| Link::check(&line, limit)))?;
             let mut link = Link::make(line, limit);
-            serve_link(session, &mut link)
+            session.serve(|heap, text| link_answer(heap, text, &mut link))
         }
     }
 }
 
+// Each store makes its own memory and its own type of line. (One function for both would take the blank, the check and the
+// maker of each as parameters, and be no plainer.)
 fn serve_table(session: &mut Session, setup: Setup) -> io::Result<Option<Setup>> {
     let mut one = [Record::blank(); RECORDS];
     let mut two = [Record::blank(); RECORDS];

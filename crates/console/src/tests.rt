@@ -1,7 +1,10 @@
 // Lines and their replies: where nothing stands, where a line stands, where a link stands.
-use crate::answer::{Reply, Step, nothing_reply, reply_to};
-use crate::line_answer::line_reply;
-use crate::link_answer::link_reply;
+use crate::answer::frame_answer;
+use crate::command::{Command, parse};
+use crate::error::CommandError;
+use crate::line_answer::line_answer;
+use crate::link_answer::link_answer;
+use crate::serve::nothing_answer;
 use lines::{Blank, Record, TableLine};
 use link::Link;
 use std::alloc::Global;
@@ -23,26 +26,42 @@ const MASK: &'static str = "!error: the mask must be a decimal number from 0 to 
 
 const TOO_MANY: &'static str = "!error: too many words\n";
 
-// The text of a reply: an error's behind `!`, and `.` for none.
-fn told(heap: Global, reply: Reply) -> Result<String, Fail> {
-    match reply {
-        Reply::Nothing => Ok(String::from_str(heap, ".")?),
-        Reply::Answer(text) => Ok(text),
-        Reply::Error(text) => Ok(format!(in heap; "!{text}")?),
-    }
+// The text of an answer, that of a fault behind `!`.
+fn told(heap: Global, answer: Result<String, CommandError>) -> Result<String, Fail> {
+    let fault = matches!(&answer, Err(CommandError::Fault(_)));
+    let text = match answer {
+        Ok(text) => text,
+        Err(error) => error.text(heap)?,
+    };
+    let mark = if fault { "!" } else { "" };
+    Ok(format!(in heap; "{mark}{text}")?)
 }
 
+// The same where nothing stands, `.` for no answer. (A session takes a line apart so too, but reads it from the input.)
 fn told_alone(heap: Global, line: &[u8]) -> Result<String, Fail> {
-    match reply_to(heap, line)? {
-        Step::Reply(reply) => told(heap, reply),
-        Step::Stand(_) => Ok(String::from_str(heap, "stands")?),
-        Step::Other => told(heap, nothing_reply(heap, line)?),
+    match parse(heap, line) {
+        Ok(None) => Ok(String::from_str(heap, ".")?),
+        Ok(Some(Command::Stand(_))) => Ok(String::from_str(heap, "stands")?),
+        Ok(Some(Command::Frame(command))) => Ok(frame_answer(heap, command)?),
+        Ok(Some(Command::Other)) => told(heap, nothing_answer(heap, line)),
+        Err(error) => told(heap, Err(error)),
     }
 }
 
-fn expect(rt: &(impl Abort + AllocGlobal), line: &[u8], reply: &str) -> Result<(), Fail> {
-    let text = told_alone(rt.alloc(), line)?;
-    assert_eq!(rt; text.as_str(), reply);
+// Whether each line has its reply, where `answer` answers them.
+fn expect_all<F>(
+    rt: &(impl Abort + AllocGlobal),
+    lines: &[(&[u8], &str)],
+    mut answer: F,
+) -> Result<(), Fail>
+where
+    F: FnMut(Global, &[u8]) -> Result<String, Fail>,
+    requires { F.IsAlwaysCallable answer }
+{
+    for (line, reply) in lines {
+        let text = answer(rt.alloc(), line)?;
+        assert_eq!(rt; text.as_str(), *reply);
+    }
     Ok(())
 }
 
@@ -57,7 +76,8 @@ fn no_reply(rt: HostRuntime) -> Result<(), Fail> {
         b"#read\xff\n",
     ];
     for line in lines {
-        expect(&rt, line, ".")?;
+        let text = told_alone(rt.alloc(), line)?;
+        assert_eq!(rt; text.as_str(), ".");
     }
     Ok(())
 }
@@ -133,10 +153,7 @@ fn nothing_stands(rt: HostRuntime) -> Result<(), Fail> {
         (b"strike 1 0 0 1", "!error: no line or link stands\n"),
         (b"tick", "!error: no line or link stands\n"),
     ];
-    for (line, reply) in lines {
-        expect(&rt, line, reply)?;
-    }
-    Ok(())
+    expect_all(&rt, &lines, told_alone)
 }
 
 #[test]
@@ -165,15 +182,12 @@ fn line_stands(rt: HostRuntime) -> Result<(), Fail> {
         (b"count 1", "count=1\n"),
         (b"take 1", "frame I ns=3 nr=5 b=0 info=6869\n"),
     ];
-    let heap = rt.alloc();
     let mut one = [Record::blank(); 8];
     let mut two = [Record::blank(); 8];
     let mut line = TableLine::make(8, 2, &mut one, &mut two);
-    for (text, reply) in lines {
-        let text = told(heap, line_reply(heap, text, &mut line)?)?;
-        assert_eq!(rt; text.as_str(), reply);
-    }
-    Ok(())
+    expect_all(&rt, &lines, |heap, text| {
+        told(heap, line_answer(heap, text, &mut line))
+    })
 }
 
 #[test]
@@ -197,24 +211,20 @@ fn link_stands(rt: HostRuntime) -> Result<(), Fail> {
         (b"count 1", "!error: no line stands\n"),
         (b"opens", "!error: no such command\n"),
     ];
-    let heap = rt.alloc();
     let mut one = [Record::blank(); 8];
     let mut two = [Record::blank(); 8];
     let line = TableLine::make(8, 2, &mut one, &mut two);
     let mut link = Link::make(line, 5);
-    for (text, reply) in lines {
-        let text = told(heap, link_reply(heap, text, &mut link)?)?;
-        assert_eq!(rt; text.as_str(), reply);
-    }
-    Ok(())
+    expect_all(&rt, &lines, |heap, text| {
+        told(heap, link_answer(heap, text, &mut link))
+    })
 }
 
 // A drain is refused until the primary is open. The first of seven blocks is struck and none is taken in; the drain has
 // all seven sent again, taken in and acknowledged, and tells the primary that the far queue is full.
 #[test]
 fn drains(rt: HostRuntime) -> Result<(), Fail> {
-    let heap = rt.alloc();
-    let nothing = told_alone(heap, b"drain")?;
+    let nothing = told_alone(rt.alloc(), b"drain")?;
     assert_eq!(rt; nothing.as_str(), "!error: no link stands\n");
     let lines: [(&[u8], &str); 25] = [
         (b"drain now", TOO_MANY),
@@ -274,9 +284,7 @@ fn drains(rt: HostRuntime) -> Result<(), Fail> {
     let mut two = [Record::blank(); 8];
     let line = TableLine::make(8, 2, &mut one, &mut two);
     let mut link = Link::make(line, 5);
-    for (text, reply) in lines {
-        let text = told(heap, link_reply(heap, text, &mut link)?)?;
-        assert_eq!(rt; text.as_str(), reply);
-    }
-    Ok(())
+    expect_all(&rt, &lines, |heap, text| {
+        told(heap, link_answer(heap, text, &mut link))
+    })
 }

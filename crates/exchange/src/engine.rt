@@ -1,55 +1,14 @@
 // The engine: it opens a link, carries keys both ways over a line that is struck again and again, drains and closes.
 use crate::generator::Generator;
+use crate::said::Answer;
 use crate::side::{Outcome, Side};
 use crate::tally::Tally;
-use frames::Way;
+use frames::{Burst, Way};
 use lines::Line;
-use link::{End, Link};
-use stations::Mode;
+use link::{End, Link, LinkRefusal};
+use stations::{Counts, Mode};
 use std::alloc::{AllocError, Global};
-
-// What a turn may do.
-#[derive(Clone, Copy)]
-enum Move {
-    SendOlder,
-    SendNewer,
-    Take(End),
-    FetchOlder,
-    FetchNewer,
-    Strike,
-    Tick,
-    Poll,
-}
-
-const MOVES: usize = 24;
-
-// The moves of which a turn draws one.
-const TABLE: [Move; MOVES] = [
-    Move::SendOlder,
-    Move::SendOlder,
-    Move::SendOlder,
-    Move::SendOlder,
-    Move::SendNewer,
-    Move::SendNewer,
-    Move::Take(End::Secondary),
-    Move::Take(End::Secondary),
-    Move::Take(End::Secondary),
-    Move::Take(End::Secondary),
-    Move::Take(End::Primary),
-    Move::Take(End::Primary),
-    Move::Take(End::Primary),
-    Move::Take(End::Primary),
-    Move::FetchOlder,
-    Move::FetchOlder,
-    Move::FetchNewer,
-    Move::Strike,
-    Move::Strike,
-    Move::Strike,
-    Move::Tick,
-    Move::Tick,
-    Move::Poll,
-    Move::Poll,
-];
+use std::fmt;
 
 // A turn in so many is a drain.
 const DRAIN: usize = 250;
@@ -59,11 +18,18 @@ const TURNS: usize = 20000;
 
 const SHORT: usize = 500;
 
+// The keys that a connection carries more: from the older module, and from the newer.
+#[derive(Clone, Copy)]
+pub struct Plan {
+    pub older: usize,
+    pub newer: usize,
+}
+
 // The two modules. The older is the primary, the newer the secondary.
 #[derive(Drop)]
 pub struct Unit {
-    pub older: Side,
-    pub newer: Side,
+    older: Side,
+    newer: Side,
     pub tally: Tally,
     dice: Generator,
 }
@@ -72,22 +38,23 @@ pub struct Unit {
 // closed; and whether it was opened, a drain answered settled while nothing waited, and it was closed.
 #[derive(Clone, Copy)]
 pub struct Connection {
-    pub opened: usize,
-    pub settled: usize,
-    pub closed: usize,
-    pub older: Outcome,
-    pub newer: Outcome,
+    opened: usize,
+    settled: usize,
+    closed: usize,
+    older: Outcome,
+    newer: Outcome,
+    // Beside the ticks, which are shown whether it was whole or not.
     pub whole: bool,
 }
 
 impl Unit {
-    pub fn new(heap: Global) -> Unit {
-        Unit {
-            older: Side::new(heap, End::Primary, 2026),
-            newer: Side::new(heap, End::Secondary, 1979),
-            tally: Tally::new(),
+    pub fn new(heap: Global) -> Result<Unit, AllocError> {
+        Ok(Unit {
+            older: Side::new(heap, End::Primary, 2026)?,
+            newer: Side::new(heap, End::Secondary, 1979)?,
+            tally: Tally::default(),
             dice: Generator::new(7),
-        }
+        })
     }
 
     fn take<L: Line>(&mut self, link: &mut Link<L>, end: End) {
@@ -97,15 +64,13 @@ impl Unit {
     }
 
     fn tick<L: Line>(&mut self, link: &mut Link<L>) {
-        if self.tally.granted(link.tick()) {
-            self.tally.ticks = self.tally.ticks.saturating_add(1);
-        }
+        let granted = self.tally.granted(link.tick());
+        self.tally.ticks += usize::from(granted);
     }
 
     fn poll<L: Line>(&mut self, link: &mut Link<L>) {
-        if self.tally.granted(link.poll()) {
-            self.tally.polls = self.tally.polls.saturating_add(1);
-        }
+        let granted = self.tally.granted(link.poll());
+        self.tally.polls += usize::from(granted);
     }
 
     // A burst at one of the first three entries of a way, somewhere in its first 32 bits.
@@ -116,43 +81,54 @@ impl Unit {
             Way::Two
         };
         let place = self.dice.below(3);
-        let start = self.dice.below(17);
-        let mask = self.dice.below(65535) as u16;
-        if self.tally.granted(link.strike(way, place, start, mask)) {
-            self.tally.strikes = self.tally.strikes.saturating_add(1);
-        }
+        let burst = Burst {
+            start: self.dice.below(17),
+            mask: self.dice.below(65535) as u16,
+        };
+        let answer = link.strike(way, place, burst);
+        let granted = self.tally.granted(answer);
+        self.tally.strikes += usize::from(granted);
     }
 
     // A drain, and whether neither end then has a block outstanding.
     fn drain<L: Line>(&mut self, link: &mut Link<L>) -> bool {
-        match link.drain() {
-            Ok(drained) => {
-                self.tally.frames(drained.counts);
-                self.tally.ticks = self.tally.ticks.saturating_add(drained.ticks);
-                self.tally.drains = self.tally.drains.saturating_add(1);
-                drained.settled
-            }
-            Err(_) => false,
-        }
+        let Ok(drained) = link.drain() else {
+            return false;
+        };
+        self.tally.frames(drained.counts);
+        self.tally.ticks += drained.ticks;
+        self.tally.drains += 1;
+        drained.settled
     }
 
-    // A move that is drawn from the table.
+    // One of 24 moves is drawn: a move comes as often as it has numbers. (A list of closures would be no plainer: all of
+    // them would borrow this unit.)
     fn step<L: Line>(&mut self, link: &mut Link<L>) -> Result<(), AllocError> {
-        match TABLE[self.dice.below(MOVES)] {
-            Move::SendOlder => self.older.send(link, &mut self.tally)?,
-            Move::SendNewer => self.newer.send(link, &mut self.tally)?,
-            Move::Take(end) => self.take(link, end),
-            Move::FetchOlder => self.older.fetch(link),
-            Move::FetchNewer => self.newer.fetch(link),
-            Move::Strike => self.strike(link),
-            Move::Tick => self.tick(link),
-            Move::Poll => self.poll(link),
+        match self.dice.below(24) {
+            0..=3 => self.older.send(link, &mut self.tally)?,
+            4..=5 => self.newer.send(link, &mut self.tally)?,
+            6..=9 => self.take(link, End::Secondary),
+            10..=13 => self.take(link, End::Primary),
+            14..=15 => self.older.fetch(link),
+            16 => self.newer.fetch(link),
+            17..=19 => self.strike(link),
+            20..=21 => self.tick(link),
+            _ => self.poll(link),
         }
         Ok(())
     }
 
-    // Both ends take, and time passes, until the primary is in this mode; the line is struck one turn in three.
-    fn reach<L: Line>(&mut self, link: &mut Link<L>, mode: Mode) -> bool {
+    // A call that asks for another mode. Then both ends take, and time passes, until the primary is in that mode; the line
+    // is struck one turn in three.
+    fn reach<L: Line>(
+        &mut self,
+        link: &mut Link<L>,
+        asked: Result<Counts, LinkRefusal>,
+        mode: Mode,
+    ) -> bool {
+        if !self.tally.granted(asked) {
+            return false;
+        }
         for _ in 0..SHORT {
             if link.primary_mode() == mode {
                 return true;
@@ -200,49 +176,55 @@ impl Unit {
         self.older.carried() && self.newer.carried()
     }
 
-    // Opens the link.
-    fn open<L: Line>(&mut self, link: &mut Link<L>) -> bool {
-        let asked = self.tally.granted(link.open());
-        asked && self.reach(link, Mode::Open)
-    }
-
-    // Closes the link.
-    fn close<L: Line>(&mut self, link: &mut Link<L>) -> bool {
-        let asked = self.tally.granted(link.close());
-        asked && self.reach(link, Mode::Closed)
-    }
-
-    // Settles and closes a connection; what has come of it is asked in between.
-    fn finish<L: Line>(&mut self, link: &mut Link<L>, opened: usize) -> Connection {
-        let drained = self.settle(link);
-        let settled = self.tally.ticks;
-        let older = self.older.outcome(link);
-        let newer = self.newer.outcome(link);
-        let ended = self.close(link);
-        Connection {
-            opened,
-            settled,
-            closed: self.tally.ticks,
-            older,
-            newer,
-            whole: drained && ended,
-        }
-    }
-
-    // A whole connection, with so many keys more each way.
+    // A whole connection, with the keys of a plan more. What has come of it is asked before it is closed.
     pub fn connect<L: Line>(
         &mut self,
         link: &mut Link<L>,
-        older: usize,
-        newer: usize,
+        plan: Plan,
     ) -> Result<Connection, AllocError> {
-        self.older.plan(older);
-        self.newer.plan(newer);
-        let open = self.open(link);
-        let opened = self.tally.ticks;
+        self.older.plan(plan.older);
+        self.newer.plan(plan.newer);
+        let asked = link.open();
+        let open = self.reach(link, asked, Mode::Open);
+        let opened = self.tally.ticks.0;
         self.carry(link)?;
-        let mut connection = self.finish(link, opened);
-        connection.whole = connection.whole && open;
-        Ok(connection)
+        let drained = self.settle(link);
+        let settled = self.tally.ticks.0;
+        let older = self.older.outcome(link);
+        let newer = self.newer.outcome(link);
+        let asked = link.close();
+        let ended = self.reach(link, asked, Mode::Closed);
+        Ok(Connection {
+            opened,
+            settled,
+            closed: self.tally.ticks.0,
+            older,
+            newer,
+            whole: open && drained && ended,
+        })
+    }
+}
+
+impl fmt::Display for Connection {
+    fn fmt<W: fmt::Write>(&self, f: &mut fmt::Formatter<W>) -> fmt::Result {
+        let Connection {
+            opened,
+            settled,
+            closed,
+            older,
+            newer,
+            whole,
+        } = *self;
+        let whole = Answer(whole);
+        writeln!(
+            f,
+            "opened at tick {opened}, drained at tick {settled}, closed at tick {closed}"
+        )?;
+        writeln!(
+            f,
+            "  opened, settled while nothing waited, and closed: {whole}"
+        )?;
+        writeln!(f, "  older to newer so far: {older}")?;
+        writeln!(f, "  newer to older so far: {newer}")
     }
 }

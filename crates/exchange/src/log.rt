@@ -1,13 +1,13 @@
 // What a watched line saw: each frame that was put on it, and what became of it.
-use frames::{Kind, Way};
+use frames::{Kind, Parts, Way};
+use std::alloc::{AllocError, Global};
+use std::num::Saturating;
 
 // So many frames are noted; any more are not.
-pub const NOTES: usize = 200;
+const NOTES: usize = 200;
 
 #[derive(Clone, Copy, PartialEq, Eq)]
 pub enum Fate {
-    // No frame is noted here.
-    Blank,
     // It found no room on the line.
     Lost,
     // It stands on the line.
@@ -27,84 +27,67 @@ pub struct Note {
     pub b: u8,
     pub length: usize,
     pub tick: usize,
+    // Beside the fate, since a struck frame stands, is taken or ages as any other.
     pub struck: bool,
     pub fate: Fate,
 }
 
-#[derive(Clone, Copy)]
+#[derive(Drop)]
 pub struct Log {
-    notes: [Note; NOTES],
-    count: usize,
-    tick: usize,
+    notes: Vec<Note>,
+    tick: Saturating<usize>,
 }
 
 impl Log {
-    pub fn new() -> Log {
-        let blank = Note {
-            way: Way::One,
-            kind: Kind::Sarm,
-            ns: 0,
-            nr: 0,
-            b: 0,
-            length: 0,
-            tick: 0,
-            struck: false,
-            fate: Fate::Blank,
-        };
-        Log {
-            notes: [blank; NOTES],
-            count: 0,
-            tick: 0,
-        }
+    // The room for notes is made here, so that noting needs no memory.
+    pub fn new(heap: Global) -> Result<Log, AllocError> {
+        Ok(Log {
+            notes: Vec::with_capacity(heap, NOTES)?,
+            tick: Saturating(0),
+        })
     }
 
-    // All places for notes; those behind the last frame are blank.
     pub fn notes(&self) -> &[Note] {
-        &self.notes
+        self.notes.as_slice()
     }
 
-    // The ticks so far.
-    pub fn tick(&self) -> usize {
-        self.tick
-    }
-
-    // Notes a frame.
-    pub fn add(&mut self, note: Note) {
-        if self.count < NOTES {
-            self.notes[self.count] = note;
-            self.count += 1;
+    // Notes a frame, if there is room.
+    pub fn add(&mut self, way: Way, frame: Parts<'_>, fate: Fate) {
+        if self.notes.len() < self.notes.capacity() {
+            let note = Note {
+                way,
+                kind: frame.kind,
+                ns: frame.ns,
+                nr: frame.nr,
+                b: frame.b,
+                length: frame.info.len(),
+                tick: self.tick.0,
+                struck: false,
+                fate,
+            };
+            self.notes.push(note).unwrap();
         }
     }
 
-    // The place of the note of the entry that stands so far behind the oldest of a way.
-    fn find(&self, way: Way, place: usize) -> Option<usize> {
-        let mut left = place;
-        for (i, note) in self.notes.iter().enumerate() {
-            if note.way == way && note.fate == Fate::Stands {
-                if left == 0 {
-                    return Some(i);
-                }
-                left -= 1;
-            }
-        }
-        None
+    // The note of the entry that stands so far behind the oldest of a way.
+    fn standing(&mut self, way: Way, place: usize) -> Option<&mut Note> {
+        self.notes
+            .iter_mut()
+            .filter(|note| note.way == way && note.fate == Fate::Stands)
+            .nth(place)
     }
 
     // The entry at a place is struck.
     pub fn strike(&mut self, way: Way, place: usize) {
-        if let Some(i) = self.find(way, place)
-            && i < NOTES
-        {
-            self.notes[i].struck = true;
+        if let Some(note) = self.standing(way, place) {
+            note.struck = true;
         }
     }
 
     // The oldest entry of a way leaves.
     pub fn remove(&mut self, way: Way, fate: Fate) {
-        if let Some(i) = self.find(way, 0)
-            && i < NOTES
-        {
-            self.notes[i].fate = fate;
+        if let Some(note) = self.standing(way, 0) {
+            note.fate = fate;
         }
     }
 
@@ -117,6 +100,6 @@ impl Log {
 
     // A tick passes.
     pub fn pass(&mut self) {
-        self.tick = self.tick.saturating_add(1);
+        self.tick += 1;
     }
 }

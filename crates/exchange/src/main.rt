@@ -7,7 +7,7 @@ mod generator;
 mod key;
 mod ladder;
 mod log;
-mod report;
+mod said;
 mod show;
 mod side;
 mod tally;
@@ -26,12 +26,8 @@ const OCTETS: usize = 72 * K;
 
 // Whether a ladder is asked for.
 fn asked(rt: &HostRuntime) -> io::Result<bool> {
-    let mut arguments = env::args(rt)?;
-    let _ = arguments.next();
-    match arguments.next() {
-        Some(word) => Ok(word.as_str() == "ladder"),
-        None => Ok(false),
-    }
+    let word = env::args(rt)?.nth(1);
+    Ok(word.is_some_and(|word| word.as_str() == "ladder"))
 }
 
 fn over<L: Line + Drop>(rt: &HostRuntime, line: L) -> io::Result<bool> {

@@ -1,36 +1,38 @@
 // One direction of the exchange: the keys that one end sends, and what is fetched of them at the other.
 use crate::generator::Generator;
-use crate::key::{Key, front};
+use crate::key::draw;
 use crate::tally::Tally;
 use lines::Line;
 use link::{End, Link};
 use std::alloc::{AllocError, Global};
+use std::num::Saturating;
+use std::{fmt, mem};
 
 #[derive(Drop)]
 pub struct Side {
+    heap: Global,
     from: End,
     source: Generator,
     // The key that is sent next, again and again until it is accepted.
-    next: Key,
+    next: Vec<u8>,
     // So many keys are to be accepted.
-    planned: usize,
+    planned: Saturating<usize>,
     // The keys whose sends were granted, in their order.
-    accepted: Vec<Key>,
-    octets: usize,
+    accepted: Vec<Vec<u8>>,
     // The blocks that were fetched, and how many of them are what was accepted at that place, octet by octet.
-    fetched: usize,
-    equal: usize,
+    fetched: Saturating<usize>,
+    equal: Saturating<usize>,
 }
 
 // What came of a direction.
 #[derive(Clone, Copy)]
 pub struct Outcome {
-    pub accepted: usize,
-    pub octets: usize,
-    pub taken: usize,
-    pub acknowledged: usize,
-    pub fetched: usize,
-    pub equal: usize,
+    accepted: usize,
+    octets: Saturating<usize>,
+    taken: Saturating<usize>,
+    acknowledged: usize,
+    fetched: Saturating<usize>,
+    equal: Saturating<usize>,
 }
 
 fn far(end: End) -> End {
@@ -41,50 +43,48 @@ fn far(end: End) -> End {
 }
 
 impl Side {
-    pub fn new(heap: Global, from: End, seed: u32) -> Side {
+    pub fn new(heap: Global, from: End, seed: u32) -> Result<Side, AllocError> {
         let mut source = Generator::new(seed);
-        let next = Key::draw(&mut source);
-        Side {
+        let next = draw(heap, &mut source)?;
+        Ok(Side {
+            heap,
             from,
             source,
             next,
-            planned: 0,
+            planned: Saturating(0),
             accepted: Vec::new(heap),
-            octets: 0,
-            fetched: 0,
-            equal: 0,
-        }
+            fetched: Saturating(0),
+            equal: Saturating(0),
+        })
     }
 
     // So many keys more are to be accepted.
     pub fn plan(&mut self, keys: usize) {
-        self.planned = self.planned.saturating_add(keys);
+        self.planned += keys;
     }
 
     // Every key of the plan was accepted, and every accepted key was fetched and is equal.
     pub fn carried(&self) -> bool {
         let accepted = self.accepted.len();
-        accepted == self.planned && self.fetched == accepted && self.equal == accepted
+        accepted == self.planned.0 && self.fetched.0 == accepted && self.equal.0 == accepted
     }
 
     // The next key was accepted.
     fn accept(&mut self) -> Result<(), AllocError> {
-        self.octets = self.octets.saturating_add(self.next.octets().len());
-        self.accepted.push(self.next)?;
-        self.next = Key::draw(&mut self.source);
+        let next = draw(self.heap, &mut self.source)?;
+        let key = mem::replace(&mut self.next, next);
+        self.accepted.push(key)?;
         Ok(())
     }
 
     // A block was fetched: is it the next of those that were accepted?
     fn compare(&mut self, block: &[u8]) {
-        let same = match self.accepted.get(self.fetched) {
-            Some(key) => key.octets() == block,
-            None => false,
-        };
-        self.fetched = self.fetched.saturating_add(1);
-        if same {
-            self.equal = self.equal.saturating_add(1);
-        }
+        let same = self
+            .accepted
+            .get(self.fetched.0)
+            .is_some_and(|key| key.as_slice() == block);
+        self.fetched += 1;
+        self.equal += usize::from(same);
     }
 
     // Sends the next key of the plan, if there is one.
@@ -93,11 +93,9 @@ impl Side {
         link: &mut Link<L>,
         tally: &mut Tally,
     ) -> Result<(), AllocError> {
-        if self.accepted.len() >= self.planned {
-            return Ok(());
-        }
-        let answer = link.send(self.from, self.next.octets());
-        if tally.granted(answer) {
+        if self.accepted.len() < self.planned.0
+            && tally.granted(link.send(self.from, self.next.as_slice()))
+        {
             self.accept()?;
         }
         Ok(())
@@ -107,7 +105,7 @@ impl Side {
     pub fn fetch<L: Line>(&mut self, link: &mut Link<L>) {
         let mut place = [0; 64];
         if let Ok(fetched) = link.fetch(far(self.from), &mut place) {
-            self.compare(front(&place, fetched.length));
+            self.compare(place.get(..fetched.length).unwrap_or(&place));
         }
     }
 
@@ -123,11 +121,28 @@ impl Side {
         let accepted = self.accepted.len();
         Outcome {
             accepted,
-            octets: self.octets,
-            taken: self.fetched.saturating_add(link.waiting(far(self.from))),
+            octets: self.accepted.iter().map(|key| Saturating(key.len())).sum(),
+            taken: self.fetched + Saturating(link.waiting(far(self.from))),
             acknowledged: accepted.saturating_sub(link.outstanding(self.from)),
             fetched: self.fetched,
             equal: self.equal,
         }
+    }
+}
+
+impl fmt::Display for Outcome {
+    fn fmt<W: fmt::Write>(&self, f: &mut fmt::Formatter<W>) -> fmt::Result {
+        let Outcome {
+            accepted,
+            octets,
+            taken,
+            acknowledged,
+            fetched,
+            equal,
+        } = *self;
+        write!(
+            f,
+            "{accepted} blocks accepted ({octets} octets), {taken} taken in, {acknowledged} acknowledged, {fetched} fetched, {equal} equal"
+        )
     }
 }

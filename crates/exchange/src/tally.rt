@@ -1,43 +1,49 @@
 // What was done on a link, counted.
 use link::LinkRefusal;
 use stations::Counts;
+use std::fmt;
+use std::num::Saturating;
 
-#[derive(Clone, Copy)]
+#[derive(Clone, Copy, Default)]
 pub struct Tally {
-    pub put: usize,
-    pub lost: usize,
-    pub strikes: usize,
-    pub ticks: usize,
-    pub polls: usize,
-    pub drains: usize,
+    pub put: Saturating<usize>,
+    pub lost: Saturating<usize>,
+    pub strikes: Saturating<usize>,
+    pub ticks: Saturating<usize>,
+    pub polls: Saturating<usize>,
+    pub drains: Saturating<usize>,
 }
 
 impl Tally {
-    pub fn new() -> Tally {
-        Tally {
-            put: 0,
-            lost: 0,
-            strikes: 0,
-            ticks: 0,
-            polls: 0,
-            drains: 0,
-        }
-    }
-
     // The frames of a granted call.
     pub fn frames(&mut self, counts: Counts) {
-        self.put = self.put.saturating_add(counts.put);
-        self.lost = self.lost.saturating_add(counts.lost);
+        self.put += counts.put;
+        self.lost += counts.lost;
     }
 
     // The frames of a call, and whether it was granted.
     pub fn granted(&mut self, answer: Result<Counts, LinkRefusal>) -> bool {
-        match answer {
-            Ok(counts) => {
-                self.frames(counts);
-                true
-            }
-            Err(_) => false,
-        }
+        let Ok(counts) = answer else {
+            return false;
+        };
+        self.frames(counts);
+        true
+    }
+}
+
+impl fmt::Display for Tally {
+    fn fmt<W: fmt::Write>(&self, f: &mut fmt::Formatter<W>) -> fmt::Result {
+        let Tally {
+            put,
+            lost,
+            strikes,
+            ticks,
+            polls,
+            drains,
+        } = *self;
+        write!(
+            f,
+            "{put} frames put, {lost} lost for want of room, {strikes} struck; {ticks} ticks, {polls} polls, {drains} drains"
+        )
     }
 }

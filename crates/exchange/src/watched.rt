@@ -1,6 +1,6 @@
 // A line that is watched: each call goes on to a line, and what it did there is noted. It means what that line means.
-use crate::log::{Fate, Log, Note};
-use frames::{FrameBuf, Kind, Way};
+use crate::log::{Fate, Log};
+use frames::{Burst, FrameBuf, Parts, Way};
 use lines::{Line, LineRefusal};
 
 #[derive(Drop)]
@@ -22,34 +22,14 @@ impl<L: Line> Line for Watched<'_, L> {
 
     ghost beyond = { λ w. L.Line.beyond w.line };
 
-    ghost tidy = { λ w. L.Line.tidy w.line };
-
-    fn put(
-        &mut self,
-        way: Way,
-        kind: Kind,
-        ns: u8,
-        nr: u8,
-        b: u8,
-        info: &[u8],
-    ) -> Result<(), LineRefusal> {
-        let answer = self.line.put(way, kind, ns, nr, b, info);
-        let fate = match answer {
-            Ok(_) => Fate::Stands,
-            Err(_) => Fate::Lost,
+    fn put(&mut self, way: Way, frame: Parts<'_>) -> Result<(), LineRefusal> {
+        let answer = self.line.put(way, frame);
+        let fate = if answer.is_ok() {
+            Fate::Stands
+        } else {
+            Fate::Lost
         };
-        let note = Note {
-            way,
-            kind,
-            ns,
-            nr,
-            b,
-            length: info.len(),
-            tick: self.log.tick(),
-            struck: false,
-            fate,
-        };
-        self.log.add(note);
+        self.log.add(way, frame, fate);
         answer
     }
 
@@ -58,20 +38,15 @@ impl<L: Line> Line for Watched<'_, L> {
         self.line.take(way)
     }
 
-    fn strike(
-        &mut self,
-        way: Way,
-        place: usize,
-        start: usize,
-        mask: u16,
-    ) -> Result<(), LineRefusal> {
-        let answer = self.line.strike(way, place, start, mask);
+    fn strike(&mut self, way: Way, place: usize, burst: Burst) -> Result<(), LineRefusal> {
+        let answer = self.line.strike(way, place, burst);
         if answer.is_ok() {
             self.log.strike(way, place);
         }
         answer
     }
 
+    // Way by way, since a loop's invariant would have to say again what the line means.
     fn tick(&mut self) {
         let one = self.line.count(Way::One);
         let two = self.line.count(Way::Two);

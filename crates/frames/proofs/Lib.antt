@@ -9,4 +9,3 @@ pub mod Reading
 pub mod Writing
 pub mod RoundTrips
 pub mod Strikes
-pub mod BlockParts

@@ -1,20 +1,23 @@
 -- What writing leaves in the memory that it is given.
-use Rattle.std.proofs.Common.{◌≡◌, ℕ, suc, ◌+◌, ◌-◌, ◌/◌, ◌%◌, ◌<◌, ◌≤◌, Bool, cond, List, [], ◌∷◌, ◌++◌, length, take, drop, set, Ok, Err, Result, sym, refl, ap, ◌∙◌, ap₂, append_assoc, le_of_suc-le-suc, not-suc-le-zero, arith, length-append, length-drop}
+use Rattle.std.proofs.Common.{◌≡◌, ℕ, suc, ◌+◌, ◌-◌, ◌/◌, ◌%◌, ◌^◌, ◌<◌, ◌≤◌, Bool, cond, List, [], ◌∷◌, ◌++◌, length, take, drop, set, Ok, Err, Result, sym, refl, ap, ◌∙◌, ap₂, append_assoc, arith, length-append}
 use borrow.Rule.Slice.PartMut.{put_mid}
-use Rattle.std.proofs.lemmas.List.{drop-drop, take_at}
+use Rattle.std.specs.Int.{to_le_bytes, w16}
+use Rattle.std.proofs.lemmas.List.{drop-drop, take_at, drop_at}
 use Rattle.std.proofs.lemmas.Bool.{le-ltb, lt-ltb}
 use Rattle.frames.specs.declared.refusal.FrameRefusal.{FrameRefusal}
 use Rattle.frames.specs.declared.refusal.FrameRefusal.TheVariants.{NoSpace}
 use Rattle.frames.specs.Fcs.{fcs, check_octets}
 use Rattle.frames.specs.Writer.{octets_of, octets_by, fitted}
 
--- two writes behind a front
-two_sets : (p rest : List ℕ) (x y : ℕ) → 2 ≤ length rest
-    → set (set (p ++ rest) (length p) x) (suc (length p)) y ≡ p ++ x ∷ y ∷ drop 2 rest
-two_sets [] [] x y h = absurd (not-suc-le-zero h)
-two_sets [] (a ∷ []) x y h = absurd (not-suc-le-zero (le_of_suc-le-suc h))
-two_sets [] (a ∷ b ∷ t) x y h = refl
-two_sets (q ∷ qs) rest x y h = ap (λ zs. q ∷ zs) (two_sets qs rest x y h)
+-- octets written behind a front
+behind_front : (p rest ys : List ℕ) (n k : ℕ) → length p ≡ n → put_mid n k (p ++ rest) ys ≡ p ++ (ys ++ drop k rest)
+behind_front p rest ys n k e = ap₂ (λ a b. a ++ (ys ++ drop k b)) (take_at p rest n e) (drop_at p rest n e)
+
+-- the two octets of a check sequence, the low one first
+pub two_octets : (sum : ℕ) (os : List ℕ) → sum ≡ fcs os → sum < 2 ^ 16 → to_le_bytes w16 sum ≡ check_octets os
+two_octets sum os e h =
+    let u : sum / 256 ^ 1 % 256 ≡ sum / 256 = omega arith in
+    ap (λ b. sum % 256 ∷ b ∷ []) u ∙ ap (λ n. n % 256 ∷ n / 256 ∷ []) e
 
 module _ (c : ℕ) (info : List ℕ) where
   -- the memory after the first two octets and the information
@@ -36,20 +39,18 @@ module _ (c : ℕ) (info : List ℕ) where
       (ap₂ take n (ap (put_mid 2 (length info + 2 - 2) (set (set out 0 1) 1 c)) e ∙ front out h)
       ∙ take_at (1 ∷ c ∷ info) (drop (length info) (drop 2 out)) (suc (suc (length info))) refl)
 
-  pub lain : (out ys : List ℕ) (sum : ℕ) → length info + 4 ≤ length out → ys ≡ info → sum ≡ fcs (1 ∷ c ∷ info)
-      → set (set (put_mid 2 (length info + 2 - 2) (set (set out 0 1) 1 c) ys) (length info + 2) (sum % 256)) (length info + 2 + 1) (sum / 256)
+  pub lain : (out ys two : List ℕ) → length info + 4 ≤ length out → ys ≡ info → two ≡ check_octets (1 ∷ c ∷ info)
+      → put_mid (length info + 2) (length info + 2 + 2 - (length info + 2)) (put_mid 2 (length info + 2 - 2) (set (set out 0 1) 1 c) ys) two
       ≡ octets_of c info ++ drop (length info + 4) out
-  lain out ys sum h e s =
-      let n : length info + 2 ≡ suc (suc (length info)) = omega arith in
-      let m : length info + 2 + 1 ≡ suc (suc (suc (length info))) = omega arith in
-      let k : 2 + length info + 2 ≡ length info + 4 = omega arith in
+  lain out ys two h e t =
+      let n : suc (suc (length info)) ≡ length info + 2 = omega arith in
+      let k : length info + 2 + 2 - (length info + 2) ≡ 2 = omega arith in
       let rest : List ℕ = drop (length info) (drop 2 out) in
-      let long : 2 ≤ length (drop (length info) (drop 2 out)) = simp length-drop (omega arith) in
-      ap (λ zs. set (set zs (length info + 2) (sum % 256)) (length info + 2 + 1) (sum / 256))
+      ap (λ zs. put_mid (length info + 2) (length info + 2 + 2 - (length info + 2)) zs two)
       (ap (put_mid 2 (length info + 2 - 2) (set (set out 0 1) 1 c)) e ∙ front out h)
-      ∙ ap₂ (λ i j. set (set ((1 ∷ c ∷ info) ++ rest) i (sum % 256)) j (sum / 256)) n m
-      ∙ two_sets (1 ∷ c ∷ info) rest (sum % 256) (sum / 256) long
-      ∙ ap₂ (λ z zs. (1 ∷ c ∷ info) ++ (z % 256 ∷ z / 256 ∷ zs)) s
+      ∙ behind_front (1 ∷ c ∷ info) rest two (length info + 2) (length info + 2 + 2 - (length info + 2)) n
+      ∙ ap₂ (λ zs m. (1 ∷ c ∷ info) ++ (zs ++ drop m rest)) t k
+      ∙ ap (λ zs. (1 ∷ c ∷ info) ++ (check_octets (1 ∷ c ∷ info) ++ zs))
       (drop-drop 2 (length info) (drop 2 out) ∙ drop-drop (length info + 2) 2 out ∙ ap (λ i. drop i out) again)
       ∙ sym (append_assoc (1 ∷ c ∷ info) (check_octets (1 ∷ c ∷ info)) (drop (length info + 4) out))
     where

@@ -4,6 +4,7 @@ use Rattle.frames.specs.declared.kind.Kind.{Kind}
 use Rattle.frames.specs.declared.kind.Kind.TheVariants.{I, Rr, Rnr, Sarm, Disc, Ua, Dm}
 use Rattle.frames.specs.declared.frame.Frame.{Frame}
 use Rattle.frames.specs.declared.frame.Frame.TheVariants as read
+use Rattle.frames.specs.declared.parts.Parts as written
 
 -- what a control octet says: kind, N(S), N(R) and B; a number that the kind lacks is 0
 pub data Head : Type 0 where
@@ -18,6 +19,10 @@ head_of (parts k ns nr b info) = head k ns nr b
 
 abbrev pub info_of : Parts → List ℕ
 info_of (parts k ns nr b info) = info
+
+-- the parts of a frame that is to be written
+abbrev pub given : written.Parts → Parts
+given p = parts p.kind p.ns p.nr p.b p.info.now
 
 -- only an I frame has information
 abbrev pub informs : Kind → Bool

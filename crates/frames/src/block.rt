@@ -3,6 +3,8 @@ ghost use Rattle.std.specs.Prelude.{◌≤◌};
 
 mod calls;
 
+// A length beside fixed memory, since the libraries allocate nothing and a block is copied. No `impl Model`: a type that is
+// `Copy` gives its fields back from what is seen, and the octets behind the length are not seen.
 #[derive(Clone, Copy)]
 pub struct Block {
     octets: [u8; 64],

@@ -1,10 +1,10 @@
 // The control octet: what it says on its way, and what it is for each kind.
 ghost use Rattle.std.specs.Prelude.{◌≡◌};
-ghost use Rattle.frames.specs.Parts.{head};
+ghost use Rattle.frames.specs.Parts.{given, head_of};
 ghost use Rattle.frames.specs.Control.{control_answer};
 ghost use Rattle.frames.specs.Reader.{meant, said_answer};
 
-use crate::{Frame, FrameRefusal, Kind, Way};
+use crate::{Frame, FrameRefusal, Kind, Parts, Way};
 
 // The frame that a control octet and the information behind it make, or why they make none.
 pub(crate) fn frame_of<'a>(way: Way, control: u8, info: &'a [u8]) -> Result<Frame<'a>, FrameRefusal>
@@ -37,10 +37,17 @@ pub(crate) fn frame_of<'a>(way: Way, control: u8, info: &'a [u8]) -> Result<Fram
     }
 }
 
-// The control octet of a kind with its numbers, where the way has that kind and the kind those numbers.
-pub(crate) fn control_of(way: Way, kind: Kind, ns: u8, nr: u8, b: u8) -> Option<u8>
-    ensures { result ≡ control_answer way (head kind ns nr b) }
+// The control octet of a frame, where the way has its kind and the kind its numbers.
+pub(crate) fn control_of(way: Way, frame: Parts<'_>) -> Option<u8>
+    ensures { result ≡ control_answer way (head_of (given frame.entry)) }
 {
+    let Parts {
+        kind,
+        ns,
+        nr,
+        b,
+        ..
+    } = frame;
     let plain = ns == 0 && nr == 0 && b == 0;
     match (way, kind) {
         (_, Kind::I) if ns < 8 && nr < 8 && b < 2 => Some(nr * 32 + b * 16 + ns * 2),

@@ -1,6 +1,8 @@
 // A frame with memory of its own for its information. A number that the kind lacks is 0.
 use crate::{Block, Kind};
 
+mod convert;
+
 #[derive(Clone, Copy)]
 pub struct FrameBuf {
     pub kind: Kind,

@@ -3,11 +3,13 @@
 
 mod bits;
 mod block;
+mod burst;
 mod control;
 mod fcs;
 mod frame;
 mod frame_buf;
 mod kind;
+mod parts;
 mod reader;
 mod refusal;
 mod way;
@@ -15,10 +17,12 @@ mod writer;
 
 pub use bits::strike;
 pub use block::Block;
+pub use burst::Burst;
 pub use fcs::check_sequence;
 pub use frame::Frame;
 pub use frame_buf::FrameBuf;
 pub use kind::Kind;
+pub use parts::Parts;
 pub use reader::read;
 pub use refusal::FrameRefusal;
 pub use way::Way;

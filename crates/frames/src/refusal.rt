@@ -1,6 +1,9 @@
 // Why octets are not read, or a frame is not written.
-ghost use Rattle.std.specs.Prelude.{◌≡◌};
+ghost use Rattle.std.specs.Prelude.{◌≡◌, Some};
 ghost use Rattle.frames.specs.Refusals.{number_of, word_of};
+
+use std::error::Error;
+use std::fmt;
 
 #[derive(Clone, Copy, PartialEq, Eq, Debug)]
 pub enum FrameRefusal {
@@ -36,3 +39,15 @@ impl FrameRefusal {
         }
     }
 }
+
+// A refusal is shown by its word. (Each layer says so of its own refusals: one impl for all would stand neither with the
+// trait nor with the type.)
+impl fmt::Display for FrameRefusal {
+    ghost output = { λ r. Some (word_of r) };
+
+    fn fmt<W: fmt::Write>(&self, f: &mut fmt::Formatter<W>) -> fmt::Result {
+        f.write_str(self.word())
+    }
+}
+
+impl Error for FrameRefusal {}

@@ -1,24 +1,22 @@
 // Writing: a frame's parts to octets at the front of the caller's memory, or a refusal.
 ghost use Rattle.std.specs.Prelude.{◌≡◌, ◌+◌, ◌≤◌, ◌++◌, length, drop};
-ghost use Rattle.frames.specs.Parts.{parts};
+ghost use Rattle.frames.specs.Parts.{given};
 ghost use Rattle.frames.specs.Writer.{octets_of, admit_answer, write_answer, write_leaves};
 ghost use Rattle.frames.specs.Laws.{ReadsBack};
 
 use crate::control::control_of;
 use crate::fcs::check_sequence;
-use crate::{FrameRefusal, Kind, Way};
+use crate::{FrameRefusal, Kind, Parts, Way};
 
 // The control octet of a frame that can be written, or why the frame cannot be: long, control or stray.
-pub fn admit(way: Way, kind: Kind, ns: u8, nr: u8, b: u8, info: &[u8]) -> Result<u8, FrameRefusal>
-    ensures { result ≡ admit_answer way (parts kind ns nr b info.now) }
+pub fn admit(way: Way, frame: Parts<'_>) -> Result<u8, FrameRefusal>
+    ensures { result ≡ admit_answer way (given frame.entry) }
 {
-    if info.len() > 64 {
+    if frame.info.len() > 64 {
         return Err(FrameRefusal::Long);
     }
-    let Some(control) = control_of(way, kind, ns, nr, b) else {
-        return Err(FrameRefusal::Control);
-    };
-    if kind != Kind::I && !info.is_empty() {
+    let control = control_of(way, frame).ok_or(FrameRefusal::Control)?;
+    if frame.kind != Kind::I && !frame.info.is_empty() {
         return Err(FrameRefusal::Stray);
     }
     Ok(control)
@@ -34,30 +32,21 @@ fn lay(control: u8, info: &[u8], out: &mut [u8])
     out[1] = control;
     out[2..body].copy_from_slice(info);
     let sequence = check_sequence(&out[0..body]);
-    out[body] = (sequence % 256) as u8;
-    out[body + 1] = (sequence / 256) as u8;
+    out[body..body + 2].copy_from_slice(&sequence.to_le_bytes());
 }
 
 // Writes a frame and answers how many octets it has. A refusal leaves `out` as it was.
 // The refusals are looked for in the order of their numbers.
-pub fn write(
-    way: Way,
-    kind: Kind,
-    ns: u8,
-    nr: u8,
-    b: u8,
-    info: &[u8],
-    out: &mut [u8],
-) -> Result<usize, FrameRefusal>
-    ensures answers { result ≡ write_answer way (parts kind ns nr b info.now) (length out.old) }
-    ensures leaves { out.new ≡ write_leaves way (parts kind ns nr b info.now) out.old }
-    ensures reads_back { ReadsBack way (parts kind ns nr b info.now) result out.new }
+pub fn write(way: Way, frame: Parts<'_>, out: &mut [u8]) -> Result<usize, FrameRefusal>
+    ensures answers { result ≡ write_answer way (given frame.entry) (length out.old) }
+    ensures leaves { out.new ≡ write_leaves way (given frame.entry) out.old }
+    ensures reads_back { ReadsBack way (given frame.entry) result out.new }
 {
-    let control = admit(way, kind, ns, nr, b, info)?;
-    let len = info.len() + 4;
+    let control = admit(way, frame)?;
+    let len = frame.info.len() + 4;
     if out.len() < len {
         return Err(FrameRefusal::NoSpace);
     }
-    lay(control, info, out);
+    lay(control, frame.info, out);
     Ok(len)
 }

@@ -1,21 +1,14 @@
 -- Octets cut into records of 72: what the moves of a ring do to its records.
-use Rattle.std.proofs.Common.{◌≡◌, ℕ, zero, suc, ◌+◌, ◌*◌, ◌/◌, ◌%◌, ◌<◌, ◌≤◌, Bool, true, false, cond, ltb, leb, List, [], ◌∷◌, ◌++◌, length, take, drop, set, Some, None, sym, refl, ap, ◌∙◌, subst, ap₂, ⊎_elim, arith, take-add}
+use Rattle.std.proofs.Common.{◌≡◌, ℕ, zero, suc, ◌+◌, ◌*◌, ◌/◌, ◌%◌, ◌<◌, ◌≤◌, Bool, true, false, cond, ltb, leb, List, [], ◌∷◌, ◌++◌, length, take, drop, set, Some, None, Option, sym, refl, ap, ◌∙◌, subst, ap₂, ⊎_elim, arith, take-add}
 use Rattle.std.specs.List.{AllByRecursion}
 use Rattle.std.proofs.lemmas.List.{length-drop, length-take, length-append, length-take-le, take_all, append_assoc, drop-drop, take-append-le, drop-append-le, nil_from_length, take_at, drop_at, set_past}
 use Rattle.std.proofs.ByRecursion.{All-push}
 use Rattle.std.proofs.lemmas.Bool.{cases_lt, cond-true, lt-ltb, le-ltb, lt-leb, le-leb}
 use Rattle.lines.specs.Entries.{at}
-use Rattle.lines.specs.Octets.{pieces, cut, NeatIf}
+use Rattle.lines.specs.Octets.{pieces, cut}
+use Rattle.lines.specs.Rooms.{cut_length}
 use Rattle.lines.specs.Packed.{Neat}
 use Rattle.lines.specs.Ring.{laid}
-
-pub pieces_length : (n : ℕ) (xs : List ℕ) → length (pieces n xs) ≡ n
-pieces_length zero xs = refl
-pieces_length (suc n) xs = ap suc (pieces_length n (drop 72 xs))
-
-pub cut_length : (xs : List ℕ) → length (cut xs) ≡ length xs / 72
-unfolding cut
-cut_length xs = pieces_length (length xs / 72) xs
 
 pieces_push : (n : ℕ) (xs r : List ℕ) → length xs ≡ 72 * n → length r ≡ 72 → pieces (suc n) (xs ++ r) ≡ pieces n xs ++ r ∷ []
 pieces_push zero xs r e l =
@@ -25,7 +18,7 @@ pieces_push (suc n) xs r e l =
     ap₂ (λ y z. y ∷ pieces (suc n) z) (take-append-le 72 xs r h) (drop-append-le 72 xs r h)
     ∙ ap (λ y. take 72 xs ∷ y) (pieces_push n (drop 72 xs) r (length-drop 72 xs ∙ omega arith) l)
 
-pub cut_push : (xs r : List ℕ) → length xs % 72 ≡ 0 → length r ≡ 72 → cut (xs ++ r) ≡ cut xs ++ r ∷ []
+cut_push : (xs r : List ℕ) → length xs % 72 ≡ 0 → length r ≡ 72 → cut (xs ++ r) ≡ cut xs ++ r ∷ []
 unfolding cut
 cut_push xs r e l =
     let n : length (xs ++ r) / 72 ≡ suc (length xs / 72) = simp length-append (omega arith) in
@@ -87,10 +80,10 @@ pieces_set (suc n) xs r (suc i) h m l =
     ap (λ k. pieces (suc n) (laid xs k r)) e ∙ ap₂ (λ y z. y ∷ pieces n z) d.0 d.1
     ∙ ap (λ y. take 72 xs ∷ y) (pieces_set n (drop 72 xs) r i (omega arith) (let q : 72 * n ≤ length (drop 72 xs) = simp length-drop (omega arith) in q) l)
 
-pub laid_length : (xs r : List ℕ) (k : ℕ) → k + length r ≤ length xs → length (laid xs k r) ≡ length xs
+laid_length : (xs r : List ℕ) (k : ℕ) → k + length r ≤ length xs → length (laid xs k r) ≡ length xs
 laid_length xs r k h = simp (length-append, length-take, length-drop) (omega arith)
 
-pub cut_set : (xs r : List ℕ) (i : ℕ) → i < length xs / 72 → length r ≡ 72 → cut (laid xs (72 * i) r) ≡ set (cut xs) i r
+cut_set : (xs r : List ℕ) (i : ℕ) → i < length xs / 72 → length r ≡ 72 → cut (laid xs (72 * i) r) ≡ set (cut xs) i r
 unfolding cut
 cut_set xs r i h l =
     let n : length (laid xs (72 * i) r) ≡ length xs = laid_length xs r (72 * i) (omega arith) in
@@ -126,20 +119,29 @@ poked es fs rec i r h l f e =
     let g : fs ≡ laid es (72 * i) rec = e ∙ cond-true r _ _ t in
     (ap cut g ∙ cut_set es rec i h l, ap (λ y. length y % 72) g ∙ ap (λ k. k % 72) (laid_length es rec (72 * i) (omega arith)))
 
-pub few : (es : List ℕ) → length es < 72 → (None ≡ at (cut es) 0) × (cut es ≡ drop 1 (cut es))
-few es h =
-    let e : cut es ≡ [] = nil_from_length (cut es) (cut_length es ∙ omega arith) in
-    (cut_none es 0 (omega arith), e ∙ sym (ap (λ y. drop 1 y) e))
+pub first_whole : (es r : List ℕ) → Some r ≡ at (cut es) 0 → 72 ≤ length es
+first_whole es r e = ⊎_elim
+    (λ (h : length es < 72). let n : ◌≡◌ {A = Option (List ℕ)} None (Some r) = cut_none es 0 (omega arith) ∙ sym e in absurd (let z : ◌≡◌ {A = ℕ} 0 1 = cc in omega arith))
+    (λ (h : 72 ≤ length es). h)
+    (cases_lt (length es) 72)
 
 pub shed_even : (es fs : List ℕ) → 72 ≤ length es → fs ≡ drop 72 es → length fs % 72 ≡ length es % 72
 shed_even es fs h e = ap (λ y. length y % 72) e ∙ simp length-drop (omega arith)
+
+-- no octets are no records
+pub no_cut : cut [] ≡ []
+unfolding cut
+no_cut = refl
+
+pub no_records : (es : List ℕ) → es ≡ [] → (length es % 72 ≡ 0) × AllByRecursion Neat (cut es)
+no_records es e = (ap (λ y. length y % 72) e, subst (λ rs. AllByRecursion Neat rs) (sym (ap cut e ∙ no_cut)) tt)
 
 -- ---- what is zero stays zero
 pub neat_push : (es fs : List (List ℕ)) (r : List ℕ) (t : Bool) → fs ≡ cond t (es ++ r ∷ []) es → AllByRecursion Neat es → Neat r → AllByRecursion Neat fs
 neat_push es fs r true e h n = subst (λ xs. AllByRecursion Neat xs) (sym e) (All-push Neat es r h n)
 neat_push es fs r false e h n = subst (λ xs. AllByRecursion Neat xs) (sym e) h
 
-pub neat_at : (es : List (List ℕ)) (i : ℕ) → AllByRecursion Neat es → NeatIf (at es i)
-neat_at [] i h = tt
-neat_at (e ∷ es) zero h = h.0
-neat_at (e ∷ es) (suc i) h = neat_at es i h.1
+pub neat_at : (es : List (List ℕ)) (i : ℕ) (r : List ℕ) → Some r ≡ at es i → AllByRecursion Neat es → Neat r
+neat_at [] i r e h = let z : ◌≡◌ {A = ℕ} 0 1 = cc in absurd (omega arith)
+neat_at (x ∷ es) zero r e h = let q : r ≡ x = cc in subst Neat (sym q) h.0
+neat_at (x ∷ es) (suc i) r e h = neat_at es i r e h.1

@@ -1,30 +1,25 @@
--- A strike at a place that holds a frame: what it answers, and what the line then means.
-use Rattle.std.proofs.Common.{◌≡◌, ℕ, zero, suc, ◌+◌, ◌<◌, ◌≤◌, false, cond, leb, List, [], ◌∷◌, set, is_ok, Some, Ok, sym, ap, ◌∙◌, arith}
-use Rattle.std.proofs.lemmas.Bool.{le-leb, ne_eqb}
-use Rattle.frames.specs.declared.way.Way.{Way}
+-- A burst on what stands at a place: what the store then holds, and what it then means.
+use Rattle.std.proofs.Common.{◌≡◌, ℕ, zero, suc, ◌+◌, ◌<◌, false, leb, List, [], ◌∷◌, map, set, Some, refl, ap, ◌∙◌, arith}
+use Rattle.std.proofs.lemmas.Bool.{ne_eqb}
 use Rattle.frames.specs.Parts.{Parts}
-use Rattle.lines.specs.Entries.{Entry, Lists, on, with_way, at, frame}
-use Rattle.lines.specs.Line.{bits, burst_by, strike_by, strike_answer, hit, hit_at, strike_leaves}
+use Rattle.lines.specs.Entries.{Entry, at, frame}
+use Rattle.lines.specs.Line.{bits, burst_by, strike_by, hit, hit_at}
+use Rattle.lines.specs.Stored.{struck_at}
 
-hit_set : (es : List Entry) (place : ℕ) (e : Entry) → at es place ≡ Some e → set es place (hit e) ≡ hit_at place es
-hit_set [] place e s = let z : ◌≡◌ {A = ℕ} 0 1 = cc in absurd (omega arith)
-hit_set (x ∷ es) zero e s = let q : e ≡ x = cc in ap (λ y. hit y ∷ es) q
-hit_set (x ∷ es) (suc place) e s = ap (λ xs. x ∷ xs) (hit_set es place e s)
+module _ {A : Type 0} where
+  pub hit_after : (i : A → Entry) (xs ys : List A) (place : ℕ) (x y : A) → ys ≡ set xs place y → Some x ≡ at xs place → i y ≡ hit (i x) → map i ys ≡ hit_at place (map i xs)
+  hit_after i [] ys place x y e s h = absurd (let z : ◌≡◌ {A = ℕ} 0 1 = cc in omega arith)
+  hit_after i (z ∷ xs) ys zero x y e s h =
+      let q : x ≡ z = cc in
+      ap (λ zs. map i zs) e ∙ ap (λ k. k ∷ map i xs) (h ∙ ap (λ k. hit (i k)) q)
+  hit_after i (z ∷ xs) ys (suc place) x y e s h =
+      ap (λ zs. map i zs) e ∙ ap (λ k. i z ∷ k) (hit_after i xs (set xs place y) place x y refl s h)
+
+  pub struck_after : (f : A → A) (xs ys : List A) (place : ℕ) (x y : A) → ys ≡ set xs place y → Some x ≡ at xs place → y ≡ f x → ys ≡ struck_at f place xs
+  struck_after f [] ys place x y e s h = absurd (let z : ◌≡◌ {A = ℕ} 0 1 = cc in omega arith)
+  struck_after f (z ∷ xs) ys zero x y e s h = let q : x ≡ z = cc in e ∙ ap (λ k. k ∷ xs) (h ∙ ap f q)
+  struck_after f (z ∷ xs) ys (suc place) x y e s h = e ∙ ap (λ k. z ∷ k) (struck_after f xs (set xs place y) place x y refl s h)
 
 -- a burst on a frame that stands
-module _ (a : ℕ) (p : Parts) (start mask : ℕ) (lo : 0 < mask) where
-  pub by_burst : strike_by (Some (frame a p)) start mask ≡ burst_by false (leb (start + 16) (bits p))
-  by_burst = ap (λ m. burst_by m (leb (start + 16) (bits p))) (ne_eqb mask 0 (λ z. omega arith))
-
-  pub burst_within : start + 16 ≤ bits p → Ok tt ≡ strike_by (Some (frame a p)) start mask
-  burst_within h = sym (by_burst ∙ ap (burst_by false) (le-leb (start + 16) (bits p) h))
-
--- a strike that was granted at the place of an entry
-module _ (l : Lists) (w : Way) (place start mask : ℕ) (e : Entry) (s : at (on w l) place ≡ Some e) (g : Ok tt ≡ strike_by (Some e) start mask) where
-  pub strike_granted : Ok tt ≡ strike_answer l w place start mask
-  strike_granted = g ∙ sym (ap (λ o. strike_by o start mask) s)
-
-  pub strike_hits : with_way w (set (on w l) place (hit e)) l ≡ strike_leaves l w place start mask
-  strike_hits =
-      ap (λ es. with_way w es l) (hit_set (on w l) place e s)
-      ∙ ap (λ r. cond (is_ok r) (with_way w (hit_at place (on w l)) l) l) strike_granted
+pub by_burst : (a : ℕ) (p : Parts) (start mask : ℕ) → 0 < mask → strike_by (Some (frame a p)) start mask ≡ burst_by false (leb (start + 16) (bits p))
+by_burst a p start mask lo = ap (λ m. burst_by m (leb (start + 16) (bits p))) (ne_eqb mask 0 (λ z. omega arith))

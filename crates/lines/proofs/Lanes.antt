@@ -2,39 +2,16 @@
 use Rattle.std.proofs.Common.{◌≡◌, ℕ, ◌+◌, ◌-◌, ◌<◌, ◌≤◌, min, List, [], ◌∷◌, ◌++◌, length, get_or, take, drop, set, sym, refl, ap, ◌∙◌, subst, ap₂, ⊎_elim, arith}
 use lib.Seq.{take-set-lt}
 use Rattle.std.specs.List.{AllByRecursion}
-use Rattle.std.proofs.lemmas.List.{length-set, length-drop, length-take, length-append, length-take-le, get_or-set_same, get_or-set_other, get_or_append_left, get_or-append_right, get_or-drop, get_or-take, take_all, drop_all, take-set-le, drop-set-lt, drop-set-add, set-append_left, set-append_right, append-nil, append_assoc, take_more, drop_more}
+use Rattle.std.proofs.lemmas.List.{length-set, length-drop, length-take, length-append, length-take-le, get_or_append_left, get_or-append_right, get_or-drop, get_or-take, take_all, drop_all, take-set-le, drop-set-lt, drop-set-add, set-append_left, set-append_right, append-nil, append_assoc, take_more, drop_more}
 use Rattle.std.proofs.ByRecursion.{All-from_get_or}
 use Rattle.std.proofs.lemmas.Bool.Decides.{nat_tests}
-use Rattle.std.proofs.lemmas.Bool.{cases_lt, cases_eq}
+use Rattle.std.proofs.lemmas.Bool.{cases_lt}
 use Rattle.lines.specs.Ring.{lane, slot}
 
 module _ {E : Type 0} where
   pub lane_length : (s : List E) (cap first : ℕ) → length (lane s cap first) ≡ min cap (length s)
   unfolding lane
   lane_length s cap first = simp (length-append, length-drop, length-take) (omega arith)
-
-  -- brought within the memory, the numbers mean the same
-  pub cap_within : (s : List E) (cap : ℕ) → take cap s ≡ take (min cap (length s)) s
-  cap_within s cap = ⊎_elim
-      (λ (h : length s < cap). take_all cap s (omega arith) ∙ sym (take_all (min cap (length s)) s (omega arith)))
-      (λ (h : cap ≤ length s). ap (λ k. take k s) (let e : cap ≡ min cap (length s) = omega arith in e))
-      (cases_lt (length s) cap)
-
-  pub rest_within : (s : List E) (cap : ℕ) → drop cap s ≡ drop (min cap (length s)) s
-  rest_within s cap = ⊎_elim
-      (λ (h : length s < cap). drop_all cap s (omega arith) ∙ sym (drop_all (min cap (length s)) s (omega arith)))
-      (λ (h : cap ≤ length s). ap (λ k. drop k s) (let e : cap ≡ min cap (length s) = omega arith in e))
-      (cases_lt (length s) cap)
-
-  pub lane_kept : (s : List E) (cap k first : ℕ) → k ≡ min cap (length s) → lane s cap first ≡ lane s k first
-  unfolding lane
-  lane_kept s cap k first e = ap (λ z. drop first z ++ take first z) (cap_within s cap ∙ ap (λ n. take n s) (sym e))
-
-  pub lane_past : (s : List E) (cap first : ℕ) → cap < first → lane s cap first ≡ lane s cap 0
-  unfolding lane
-  lane_past s cap first h =
-      let l : length (take cap s) ≤ first = simp length-take (omega arith) in
-      ap₂ (λ x y. x ++ y) (drop_all first (take cap s) l) (take_all first (take cap s) l) ∙ sym (append-nil (take cap s))
 
   -- a write to a slot
   pub lane_set : (s : List E) (cap first i p : ℕ) (e : E) → cap ≤ length s → first ≤ cap → i < cap → p ≡ slot cap first i →
@@ -73,7 +50,7 @@ module _ {E : Type 0} where
       (cases_lt i (cap - first))
 
   -- one slot on
-  pub lane_step : (s : List E) (cap first p : ℕ) (d : E) → cap ≤ length s → first ≤ cap → 0 < cap → p ≡ slot cap first 0 →
+  lane_step : (s : List E) (cap first p : ℕ) (d : E) → cap ≤ length s → first ≤ cap → 0 < cap → p ≡ slot cap first 0 →
       lane s cap (p + 1) ≡ drop 1 (lane s cap first) ++ take 1 (lane s cap first)
   unfolding lane
   lane_step s cap first p d l f h q =
@@ -104,22 +81,8 @@ module _ {E : Type 0} where
       ∙ ap (λ y. drop 1 y ++ take 1 y) (lane_set s cap first 0 p b l f h q)
       ∙ ap₂ (λ x y. x ++ y) (drop-set-lt 1 (lane s cap first) 0 b (omega arith)) (front_one (lane s cap first) b (omega (arith, lane_length s cap first)))
 
-  pub take_within : (zs : List E) (n k cap : ℕ) → length zs ≡ cap → k ≡ min n cap → take n zs ≡ take k zs
-  take_within zs n k cap l e = cap_within zs n ∙ ap (λ m. take m zs) (let q : min n (length zs) ≡ k = omega arith in q)
-
-  pub drop_within : (zs : List E) (n k cap : ℕ) → length zs ≡ cap → k ≡ min n cap → drop n zs ≡ drop k zs
-  drop_within zs n k cap l e = rest_within zs n ∙ ap (λ m. drop m zs) (let q : min n (length zs) ≡ k = omega arith in q)
-
   pub all_same : (P : E → Type 0) (xs ys : List E) → ys ≡ xs → AllByRecursion P xs → AllByRecursion P ys
   all_same P xs ys e h = subst (λ z. AllByRecursion P z) (sym e) h
-
-  -- one more slot made blank
-  pub blank_more : (s : List E) (i : ℕ) (b : E) → i < length s → ((k : ℕ) → k < i → get_or s k b ≡ b) → (k : ℕ) → k < i + 1 → get_or (set s i b) k b ≡ b
-  blank_more s i b l h k m =
-      ⊎_elim
-      (λ (o : k ≡ i). let g = get_or-set_same s i b b l in cc)
-      (λ (o : k ≡ i → ⊥). get_or-set_other s i k b b o ∙ h k (omega arith))
-      (cases_eq k i)
 
   -- a memory whose slots are all blank
   pub lane_blank : (s : List E) (cap : ℕ) (b d : E) → ((k : ℕ) → k < cap → get_or s k b ≡ b) → b ≡ d → AllByRecursion (λ x. x ≡ d) (lane s cap 0)

@@ -4,8 +4,5 @@ pub mod Runs
 pub mod Ages
 pub mod Stores
 pub mod Hits
-pub mod Tables
 pub mod Packs
 pub mod Cuts
-pub mod OctetLines
-pub mod Puts

@@ -4,7 +4,7 @@ pub mod Line
 pub mod Ring
 pub mod Stored
 pub mod Record
-pub mod Table
 pub mod Packed
+pub mod Rooms
 pub mod Octets
 pub mod Facts

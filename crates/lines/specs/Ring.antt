@@ -1,5 +1,5 @@
 -- A ring: which slots it has, what it holds, and what every call keeps.
-use Rattle.std.specs.Prelude.{◌≡◌, ℕ, ◌+◌, ◌-◌, min, cond, List, ◌++◌, length, take, drop, nat_lt}
+use Rattle.std.specs.Prelude.{◌≡◌, ℕ, ◌+◌, ◌-◌, cond, List, ◌++◌, length, take, drop, nat_lt}
 use Rattle.std.specs.List.{AllByRecursion}
 use Rattle.lines.specs.declared.ring.Ring.{Ring}
 
@@ -13,7 +13,7 @@ slot cap first i = cond (nat_lt i (cap - first)) (first + i) (i - (cap - first))
 
 -- how many slots a ring has
 abbrev pub size : {E : Type 0} → Ring E → ℕ
-size r = min r.cap (length r.slots.now)
+size r = r.cap
 
 -- what a ring holds, oldest first
 abbrev pub held : {E : Type 0} → Ring E → List E

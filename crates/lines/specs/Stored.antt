@@ -1,5 +1,9 @@
 -- What the stores of a line's two ways mean together, an entry's age, and one entry's turn in a tick.
-use Rattle.std.specs.Prelude.{ℕ, Bool, cond, ◌&&◌, List, [], ◌∷◌, ◌++◌, ◌==◌, nat_le}
+use Rattle.std.specs.Prelude.{◌≡◌, ℕ, zero, suc, Bool, true, cond, ◌&&◌, List, [], ◌∷◌, ◌++◌, is_ok, Some, None, Ok, Err, Option, Result, ◌==◌, nat_le}
+use Rattle.frames.specs.declared.way.Way.{Way}
+use Rattle.frames.specs.declared.refusal.FrameRefusal.{FrameRefusal}
+use Rattle.frames.specs.Parts.{Parts}
+use Rattle.frames.specs.Writer.{admit_answer}
 use Rattle.lines.specs.Entries.{Entry, struck, frame, Lists}
 use Rattle.lines.specs.Line.{dead, older}
 
@@ -24,3 +28,21 @@ aged n (frame a p) = frame n p
 abbrev pub turned : ℕ → List Entry → List Entry
 turned d [] = []
 turned d (e ∷ es) = es ++ older d (e ∷ [])
+
+-- ---- an entry in some form
+
+-- the entry by the frame that was taken out of its form
+abbrev pub entry_told : ℕ → Option Parts → Entry
+entry_told a (Some p) = frame a p
+entry_told a None = struck a
+
+-- what putting a frame into a form answers: the form of the frame at age 0, or what writing refuses
+abbrev pub Packs : {A : Type 0} → (A → Entry) → Way → Parts → Result A FrameRefusal → Type 0
+Packs entry w p (Ok x) = (is_ok (admit_answer w p) ≡ true) × (entry x ≡ frame 0 p)
+Packs entry w p (Err e) = admit_answer w p ≡ Err e
+
+-- a burst on what stands at a place; all else stays
+abbrev pub struck_at : {A : Type 0} → (A → A) → ℕ → List A → List A
+struck_at burst place [] = []
+struck_at burst zero (x ∷ xs) = burst x ∷ xs
+struck_at burst (suc place) (x ∷ xs) = x ∷ struck_at burst place xs

@@ -1,11 +1,11 @@
 // A line between two modules, known by its meaning alone: two lists of entries, one a way, oldest first.
 ghost use Rattle.std.specs.Prelude.{◌≡◌, length};
-ghost use Rattle.frames.specs.Parts.{parts};
+ghost use Rattle.frames.specs.Parts.{given};
 ghost use Rattle.lines.specs.Entries.{Lists, Bounded, on};
 ghost use Rattle.lines.specs.Line.{put_answer, put_leaves, take_answer, take_leaves, told, strike_answer, strike_leaves, tick_leaves};
 
 use crate::LineRefusal;
-use frames::{FrameBuf, Kind, Way};
+use frames::{Burst, FrameBuf, Parts, Way};
 
 pub trait Line {
     // What the line holds.
@@ -16,45 +16,32 @@ pub trait Line {
 
     ghost beyond: { Self → Beyond };
 
-    // Its memory is in order: slots that hold nothing are blank. Every call keeps that.
-    ghost tidy: { Self → Type 0 };
-
     // A frame joins the end of a way.
-    fn put(
-        &mut self,
-        way: Way,
-        kind: Kind,
-        ns: u8,
-        nr: u8,
-        b: u8,
-        info: &[u8],
-    ) -> Result<(), LineRefusal>
-        ensures answers { result ≡ put_answer (meaning self.old) way (parts kind ns nr b info.now) }
-        ensures leaves { meaning self.new ≡ put_leaves (meaning self.old) way (parts kind ns nr b info.now) }
-        ensures keeps { beyond self.new ≡ beyond self.old }
-        ensures tidy { tidy self.old → tidy self.new };
+    fn put(&mut self, way: Way, frame: Parts<'_>) -> Result<(), LineRefusal>
+        ensures answers { result ≡ put_answer (meaning self.old) way (given frame.entry) }
+        ensures leaves { meaning self.new ≡ put_leaves (meaning self.old) way (given frame.entry) }
+        ensures keeps { beyond self.new ≡ beyond self.old };
 
     // The oldest entry of a way leaves: its frame, or damaged where it was struck.
     fn take(&mut self, way: Way) -> Result<FrameBuf, LineRefusal>
         ensures answers { told result ≡ take_answer (meaning self.old) way }
         ensures leaves { meaning self.new ≡ take_leaves (meaning self.old) way }
-        ensures keeps { beyond self.new ≡ beyond self.old }
-        ensures tidy { tidy self.old → tidy self.new };
+        ensures keeps { beyond self.new ≡ beyond self.old };
 
-    // A burst of up to sixteen bits strikes the entry at a place (0 is the oldest).
-    fn strike(&mut self, way: Way, place: usize, start: usize, mask: u16) -> Result<(), LineRefusal>
-        ensures answers { result ≡ strike_answer (meaning self.old) way place start mask }
-        ensures leaves { meaning self.new ≡ strike_leaves (meaning self.old) way place start mask }
-        ensures keeps { beyond self.new ≡ beyond self.old }
-        ensures tidy { tidy self.old → tidy self.new };
+    // A burst of up to sixteen bits strikes the entry at a place (0 is the oldest). Way and place stay two parameters: the way
+    // picks the store, and the place goes on to it.
+    fn strike(&mut self, way: Way, place: usize, burst: Burst) -> Result<(), LineRefusal>
+        ensures answers { result ≡ strike_answer (meaning self.old) way place burst.start burst.mask }
+        ensures leaves { meaning self.new ≡ strike_leaves (meaning self.old) way place burst.start burst.mask }
+        ensures keeps { beyond self.new ≡ beyond self.old };
 
     // Every age rises by 1, then entries older than D leave.
     fn tick(&mut self)
         ensures leaves { meaning self.new ≡ tick_leaves (meaning self.old) }
-        ensures keeps { beyond self.new ≡ beyond self.old }
-        ensures tidy { tidy self.old → tidy self.new };
+        ensures keeps { beyond self.new ≡ beyond self.old };
 
-    // How many entries a way holds.
+    // How many entries a way holds. (The bounds are a clause of each question and no law: a proof would have to cite a law,
+    // where a clause is at hand.)
     fn count(&self, way: Way) -> usize
         ensures answers { result ≡ length (on way (meaning self.now)) }
         ensures bounds { Bounded (meaning self.now) };

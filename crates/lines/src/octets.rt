@@ -1,13 +1,24 @@
 // The octet line: each frame as its octets with a length and an age, in a ring of 72 × K octets a way.
+ghost use Rattle.std.specs.Prelude.{◌≡◌, ◌%◌, length};
+ghost use Rattle.std.specs.List.{AllByRecursion};
+ghost use Rattle.lines.specs.Ring.{held, Blanked};
+ghost use Rattle.lines.specs.Packed.{Neat};
+ghost use Rattle.lines.specs.Octets.{records};
+ghost use Rattle.std.proofs.Props.{props};
+
 use crate::Ring;
+use crate::two_way::TwoWay;
 
 mod calls;
-mod packed;
 mod store;
 
+// One way: a ring of whole records. Slots that hold nothing are zero, and so are octets behind a frame in its record.
 #[derive(Drop)]
-pub struct OctetLine<'a, 'b> {
-    one: Ring<'a, u8>,
-    two: Ring<'b, u8>,
-    lifetime: u16,
+pub struct OctetStore<'a> {
+    ring: Ring<'a, u8>,
+    ghost even: { length (held ring) % 72 ≡ 0 },
+    ghost free: { Blanked 0 ring } by { Prim.hlevel props },
+    ghost neat: { AllByRecursion Neat (records ring) } by { Prim.hlevel props },
 }
+
+pub type OctetLine<'a, 'b> = TwoWay<OctetStore<'a>, OctetStore<'b>>;

@@ -384,11 +384,11 @@ module _ (g : Measures) (wide : 8 ≤ g.k) (large : 2 * g.d + 1 ≤ g.t) (short 
 
   -- in every phase
   pub drainable : {x : State} {y : Account} → Phase g x y → Fits g x → Drainable (faultless g x) y
-  drainable both_closed fit d e = absurd (let z : ◌≡◌ {A = ℕ} 0 1 = cc in omega arith)
-  drainable (opening i s f) fit d e = absurd (let z : ◌≡◌ {A = ℕ} 0 1 = cc in omega arith)
+  drainable both_closed fit d e = cc
+  drainable (opening i s f) fit d e = cc
   drainable (both_open {t = t} {one = one} {two = two} {p = p} {s = s} i u) fit d e =
       let l = faultless g (state one two Open t true p s) in
       let is : drained l (walk drain_parts l) ≡ d = cc in
       drains_open i u fit d is
-  drainable (closing i u) fit d e = absurd (let z : ◌≡◌ {A = ℕ} 0 1 = cc in omega arith)
-  drainable (half_closed i u l) fit d e = absurd (let z : ◌≡◌ {A = ℕ} 0 1 = cc in omega arith)
+  drainable (closing i u) fit d e = cc
+  drainable (half_closed i u l) fit d e = cc

@@ -6,11 +6,11 @@ use Rattle.frames.specs.declared.kind.Kind.TheVariants.{Disc}
 use Rattle.lines.specs.Entries.{Entry}
 use Rattle.stations.specs.Station.{Block, Station, outstanding, passed, allowed, wanted, sent, with_waiting}
 use Rattle.stations.specs.Puts.{put, put_by, plain, inform, status, again, again_by}
+use Rattle.stations.specs.Answers.{some}
 use Rattle.stations.specs.Rule.{Heard, heard_i, hear_i, heard_s, hear_s}
 use Rattle.stations.specs.Primary.{Timer, resend_by}
 use Rattle.stations.specs.Secondary.{final_by}
 use Rattle.link.specs.History.{Tally, accept, acknowledge, fetch, take_in_by}
-use Rattle.link.specs.Calls.{some}
 use Rattle.link.specs.Promise.{Direction}
 use Rattle.link.proofs.Modulo.{same_count}
 use Rattle.link.proofs.Thinning.{Thin, thin_tail}

@@ -6,7 +6,7 @@ use Rattle.stations.specs.Station.{Block, Station, with_waiting, oldest}
 use Rattle.stations.specs.Primary.{Timer}
 use Rattle.link.specs.declared.end.End.TheVariants.{Primary, Secondary}
 use Rattle.link.specs.State.{Measures, State, state}
-use Rattle.link.specs.Calls.{fetched_by}
+use Rattle.link.specs.Calls.{passed_on}
 use Rattle.link.specs.History.{Tally, Account, account, fetch, note_fetch, fetches}
 use Rattle.link.specs.Promise.{Whole}
 use Rattle.link.proofs.Ends.{fetch_duplex, far_fetch_duplex}
@@ -28,7 +28,7 @@ module _ {g : Measures} where
       (zs : List Block) → p.waiting ≡ zs →
       Phase g (state one two m t u p s) (account pt st) → Whole p pt × Whole s st →
       Good g (state one two m t u (with_waiting p (drop 1 zs)) s)
-      (note_fetch (fetched_by (oldest zs)) Primary (account pt st))
+      (note_fetch (passed_on (oldest zs)) Primary (account pt st))
   primary_fetched {one} {two} {m} {t} {u} {p} {s} {pt} {st} [] e h q =
       subst (λ x. Good g (state one two m t u x s) (account pt st)) (unchanged p e) (h, q)
   primary_fetched (z ∷ zs) e both_closed q = (both_closed, (whole_fetched z zs e q.0, q.1))
@@ -43,7 +43,7 @@ module _ {g : Measures} where
       (zs : List Block) → s.waiting ≡ zs →
       Phase g (state one two m t u p s) (account pt st) → Whole p pt × Whole s st →
       Good g (state one two m t u p (with_waiting s (drop 1 zs)))
-      (note_fetch (fetched_by (oldest zs)) Secondary (account pt st))
+      (note_fetch (passed_on (oldest zs)) Secondary (account pt st))
   secondary_fetched {one} {two} {m} {t} {u} {p} {s} {pt} {st} [] e h q =
       subst (λ x. Good g (state one two m t u p x) (account pt st)) (unchanged s e) (h, q)
   secondary_fetched (z ∷ zs) e both_closed q = (both_closed, (q.0, whole_fetched z zs e q.1))

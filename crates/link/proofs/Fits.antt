@@ -1,12 +1,12 @@
 -- A way never holds more than K entries, and a running timer never reaches T.
-use Rattle.std.proofs.Common.{◌≡◌, ℕ, zero, suc, ◌+◌, ◌%◌, ◌<◌, ◌≤◌, Bool, true, false, cond, eqb, ltb, leb, List, [], ◌∷◌, length, is_ok, Some, None, Option, sym, refl, ap, subst, arith}
+use Rattle.std.proofs.Common.{◌≡◌, ℕ, ◌+◌, ◌%◌, ◌<◌, ◌≤◌, Bool, true, false, eqb, ltb, leb, List, [], ◌∷◌, length, Some, None, Option, sym, refl, subst, arith}
 use Rattle.std.proofs.lemmas.List.{length_push}
 use Rattle.std.proofs.lemmas.Bool.{ltb-true, leb-false}
 use Rattle.frames.specs.declared.kind.Kind.TheVariants.{I, Rr, Rnr, Sarm, Disc, Ua, Dm}
 use Rattle.frames.specs.declared.way.Way.TheVariants.{One, Two}
 use Rattle.frames.specs.Parts.{Parts, parts}
-use Rattle.lines.specs.Entries.{Entry, struck, frame, at}
-use Rattle.lines.specs.Line.{older, keep_by, hit_at, strike_by}
+use Rattle.lines.specs.Entries.{Entry, struck, frame}
+use Rattle.lines.specs.Line.{older}
 use Rattle.stations.specs.declared.mode.Mode.{Mode}
 use Rattle.stations.specs.declared.mode.Mode.TheVariants.{Closed, Opening, Open, Closing}
 use Rattle.stations.specs.declared.refusal.StationRefusal.{StationRefusal}
@@ -21,6 +21,7 @@ use Rattle.link.specs.declared.end.End.TheVariants.{Primary, Secondary}
 use Rattle.link.specs.State.{Measures, State, state, Model}
 use Rattle.link.specs.Calls.{by_primary, by_secondary, struck_way, held_by}
 use Rattle.link.specs.History.{Call, opens, closes, polls, ticks, sends, takes, fetches, strikes, leaves, step, run}
+use Rattle.link.proofs.Thinning.{thin_length, thin_older, thin_strike}
 
 -- a running timer is below T
 abbrev pub Timely : ℕ → Timer → Type 0
@@ -119,28 +120,11 @@ secondary_fits k u s (parts Dm ns nr b z) two h = h
 
 -- ---- ticks and strikes
 
-keep_length : (stays : Bool) (e : Entry) (es : List Entry) (n : ℕ) → length es ≤ n → length (keep_by stays e es) ≤ suc n
-keep_length true e es n h = omega arith
-keep_length false e es n h = omega arith
-
 older_length : (d : ℕ) (es : List Entry) → length (older d es) ≤ length es
-older_length d [] = omega arith
-older_length d (struck a ∷ es) =
-    keep_length (leb (a + 1) d) (struck (a + 1)) (older d es) (length es) (older_length d es)
-older_length d (frame a f ∷ es) =
-    keep_length (leb (a + 1) d) (frame (a + 1) f) (older d es) (length es) (older_length d es)
+older_length d es = thin_length (thin_older d es)
 
-hit_length : (place : ℕ) (es : List Entry) → length (hit_at place es) ≡ length es
-hit_length place [] = refl
-hit_length zero (e ∷ es) = refl
-hit_length (suc place) (e ∷ es) = ap suc (hit_length place es)
-
-strike_length : (place start mask : ℕ) (es : List Entry) → length (struck_way place start mask es) ≡ length es
-strike_length place start mask es = go (is_ok (strike_by (at es place) start mask))
-  where
-    go : (granted : Bool) → length (cond granted (hit_at place es) es) ≡ length es
-    go true = hit_length place es
-    go false = refl
+strike_length : (place start mask : ℕ) (es : List Entry) → length (struck_way place start mask es) ≤ length es
+strike_length place start mask es = thin_length (thin_strike place start mask es)
 
 tick_fits : (g : Measures) (out : Bool) (m : Mode) (n : ℕ) (p : Station) (one : List Entry) →
     0 < g.t → leb g.t (n + 1) ≡ out → length one ≤ g.k →

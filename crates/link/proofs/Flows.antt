@@ -193,15 +193,15 @@ no_status false k e f h = f e
 pub status_front : {blocks : List Block} {hi : ℕ} {c : Bool} {m lo : ℕ} {fs : List Entry} (w : Bool) {a ns nr b : ℕ} {x : Block} {es : List Entry} →
     Stream blocks hi c m lo fs → fs ≡ frame a (parts (status_by w) ns nr b x) ∷ es →
     (v : ℕ) × Tells nr lo v × Stream blocks hi c m v es
-status_front w (done l h) e = absurd (let z : ◌≡◌ {A = ℕ} 0 1 = cc in omega arith)
-status_front w (skip f) e = absurd (let z : ◌≡◌ {A = ℕ} 0 1 = cc in omega arith)
+status_front w (done l h) e = cc
+status_front w (skip f) e = cc
 status_front w (info c t f) e =
     let k : I ≡ status_by w = cc in
-    absurd (no_status w I k (λ q. let z : ◌≡◌ {A = ℕ} 0 1 = cc in omega arith) (λ q. let z : ◌≡◌ {A = ℕ} 0 1 = cc in omega arith))
+    absurd (no_status w I k (λ q. cc) (λ q. cc))
 status_front {blocks} {hi} {c} {m} {lo} w {nr = nr} {es = es} (status {nr = nr'} {v = v} {es = es'} busy t f) e =
     let n : nr' ≡ nr = cc in
     let tail : es' ≡ es = cc in
     (v, subst (λ k. Tells k lo v) n t, subst (Stream blocks hi c m v) tail f)
 status_front w (disc l h) e =
     let k : Disc ≡ status_by w = cc in
-    absurd (no_status w Disc k (λ q. let z : ◌≡◌ {A = ℕ} 0 1 = cc in omega arith) (λ q. let z : ◌≡◌ {A = ℕ} 0 1 = cc in omega arith))
+    absurd (no_status w Disc k (λ q. cc) (λ q. cc))

@@ -1,5 +1,5 @@
 -- The law: a link that its check grants keeps its promise after every list of calls.
-use Rattle.std.proofs.Common.{◌≡◌, ℕ, ◌+◌, ◌*◌, ◌≤◌, Bool, true, false, ◌&&◌, eqb, leb, List, [], ◌∷◌, length, None, Err, refl, ap, subst, arith}
+use Rattle.std.proofs.Common.{◌≡◌, ℕ, ◌+◌, ◌*◌, ◌≤◌, Bool, true, false, ◌&&◌, eqb, leb, List, [], ◌∷◌, length, None, Err, sym, refl, ap, subst, arith}
 use Rattle.std.proofs.lemmas.Bool.{both_ways, leb-true, eqb-true, and_parts}
 use Rattle.lines.specs.Entries.{Entry, Lists}
 use Rattle.stations.specs.declared.mode.Mode.{Mode}
@@ -46,8 +46,8 @@ numbered h Secondary is = subst Unrefused is (secondary_takes h.0 h.1).unrefused
 
 no_fault : (timely free : Bool) → fault_by timely free ≡ None → (timely ≡ true) × (free ≡ true)
 no_fault true true e = (refl, refl)
-no_fault true false e = let z : ◌≡◌ {A = ℕ} 0 1 = cc in absurd (omega arith)
-no_fault false free e = let z : ◌≡◌ {A = ℕ} 0 1 = cc in absurd (omega arith)
+no_fault true false e = cc
+no_fault false free e = cc
 
 none_there : (es : List Entry) → length es ≡ 0 → [] ≡ es
 none_there [] e = refl
@@ -94,7 +94,7 @@ module _ (ls : Lists) (t : ℕ) (sound : (made ls t).fault ≡ None) where
       subst (λ one. Starts one ls.two) one_empty
       (subst (λ two. Starts [] two) two_empty (both_closed, (record { whole = refl }, record { whole = refl })))
 
-  kept : (calls : List Call) → Kept (made ls t) calls
+  pub kept : (calls : List Call) → Kept (made ls t) calls
   kept calls =
       let l : Model = made ls t in
       let good = keep_run l (account no_tally no_tally) large sound start calls in
@@ -104,5 +104,13 @@ module _ (ls : Lists) (t : ℕ) (sound : (made ls t).fault ≡ None) where
             numbered good e (subst (λ g. Refuses g (run l calls).now e) (run_measures l calls) is);
       }
 
-pub law : (ls : Lists) (t : ℕ) → Law (made ls t)
-law ls t sound calls = kept ls t sound calls
+-- the line that a link has
+abbrev line_of : Measures → State → Lists
+line_of g (state one two m t u p s) = record { one = one; two = two; capacity = g.k; lifetime = g.d }
+
+abbrev pub line_in : Model → Lists
+line_in l = line_of l.measures l.now
+
+pub law : (l : Model) → l ≡ made (line_in l) l.measures.t → Law l
+unfolding Law
+law l e = subst (λ m. m.fault ≡ None → (calls : List Call) → Kept m calls) (sym e) (kept (line_in l) l.measures.t)

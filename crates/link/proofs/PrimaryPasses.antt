@@ -5,11 +5,11 @@ use Rattle.frames.specs.Parts.{parts}
 use Rattle.lines.specs.Entries.{Entry, frame}
 use Rattle.stations.specs.declared.mode.Mode.TheVariants.{Open}
 use Rattle.stations.specs.Station.{Block, Station, allowed, wanted, status_by}
+use Rattle.stations.specs.Puts.{no_counts}
 use Rattle.stations.specs.Rule.{hear_i, hear_s}
 use Rattle.stations.specs.Primary.{Timer, timer_by, resend_by}
 use Rattle.link.specs.declared.end.End.TheVariants.{Primary}
 use Rattle.link.specs.State.{Measures, State, state}
-use Rattle.link.specs.Calls.{none_put}
 use Rattle.link.specs.History.{takes, run, Tally, Account, account, account_of}
 use Rattle.link.proofs.Marks.{Marks, marked_status, marks_tail, marks_again}
 use Rattle.link.proofs.Exchange.{Exchange, NoAge, exchange_two, exchange_resend}
@@ -44,7 +44,7 @@ module _ (k : ℕ) (x : Station) where
   resend_none true final t es e = (refl, e)
   resend_none false false t es e = (refl, e)
   resend_none false true None es e = (refl, refl)
-  resend_none false true (Some n) es e = absurd (let z : ◌≡◌ {A = ℕ} 0 1 = cc in omega arith)
+  resend_none false true (Some n) es e = cc
 
 -- from way 1, the entries of way 2, the timer and the primary's tally, to way 1, the timer and the tally then; W is what
 -- the room at the primary is known under
@@ -130,7 +130,7 @@ module _ (W : Type 0) (g : Measures) (s : Station) (st : Tally) where
       let d' = info_heard c l f (tail_back d) in
       let next = state one es Open t true h.station s in
       let is =
-      noted_heard g Primary (state one two Open t true p s) (account pt st) (parts I ns nr b z) none_put h refl refl (info_unrefused p ns nr z ok) in
+      noted_heard g Primary (state one two Open t true p s) (account pt st) (parts I ns nr b z) no_counts h refl refl (info_unrefused p ns nr z ok) in
       subst (λ y. Leads g (length es) next y (AfterPrimary W g one two t s pt st)) (sym is)
       (again_after (λ one' t' pt' k. record {
         accepted_same = k.accepted_same ∙ info_accepted p pt nr z v (wanted p ns);

@@ -5,13 +5,12 @@ use Rattle.frames.specs.Parts.{Parts, parts}
 use Rattle.lines.specs.Entries.{Entry, frame}
 use Rattle.stations.specs.declared.mode.Mode.TheVariants.{Open}
 use Rattle.stations.specs.Station.{Block, Station, allowed, wanted, status_by}
-use Rattle.stations.specs.Puts.{put, status}
+use Rattle.stations.specs.Puts.{no_counts, put, status}
 use Rattle.stations.specs.Rule.{hear_i, hear_s}
 use Rattle.stations.specs.Primary.{Timer}
 use Rattle.stations.specs.Secondary.{final_by}
 use Rattle.link.specs.declared.end.End.TheVariants.{Secondary}
 use Rattle.link.specs.State.{Measures, State, state}
-use Rattle.link.specs.Calls.{none_put}
 use Rattle.link.specs.History.{takes, run, Tally, Account, account, account_of}
 use Rattle.link.proofs.Marks.{marked, marked_status, Marks, marks_after, no_mark, marks_tail}
 use Rattle.link.proofs.Exchange.{Exchange, exchange_one, exchange_final}
@@ -134,7 +133,7 @@ module _ (W : Type 0) (g : Measures) (p : Station) (pt : Tally) (t : Timer) wher
       let ok = told_allowed l f (tail_back d) in
       let d' = info_heard c l f (tail_back d) in
       let is =
-      noted_heard g Secondary (state one two Open t true p s) (account pt st) (parts I ns nr b z) none_put h refl refl (info_unrefused s ns nr z ok) in
+      noted_heard g Secondary (state one two Open t true p s) (account pt st) (parts I ns nr b z) no_counts h refl refl (info_unrefused s ns nr z ok) in
       subst (λ y. Leads g (length es) (state es two Open t true p h.station) y (AfterSecondary W g two one t p pt st)) (sym is)
       (again_after (λ two' st' k. record {
         accepted_same = k.accepted_same ∙ info_accepted s st nr z v (wanted s ns);

@@ -1,5 +1,5 @@
 -- A send at either end keeps the invariant.
-use Rattle.std.proofs.Common.{◌≡◌, ℕ, ◌<◌, Bool, true, false, ltb, leb, List, [], length, Some, None, Option, refl, arith}
+use Rattle.std.proofs.Common.{◌≡◌, ℕ, ◌<◌, Bool, true, false, ltb, leb, List, [], length, Some, None, Option, refl}
 use Rattle.std.proofs.lemmas.Bool.{leb-false}
 use Rattle.lines.specs.Entries.{Entry}
 use Rattle.stations.specs.declared.mode.Mode.TheVariants.{Opening, Open, Closing}
@@ -27,8 +27,8 @@ granted_room x z e =
     leb-false 7 (outstanding x) (go (ltb 64 (length z)) (leb 7 (outstanding x)) x.busy e)
   where
     go : (long full busy : Bool) → send_refusal true long full busy ≡ None → full ≡ false
-    go true full busy e = let z : ◌≡◌ {A = ℕ} 0 1 = cc in absurd (omega arith)
-    go false true busy e = let z : ◌≡◌ {A = ℕ} 0 1 = cc in absurd (omega arith)
+    go true full busy e = cc
+    go false true busy e = cc
     go false false busy e = refl
 
 module _ (g : Measures) (z : Block) where

@@ -4,12 +4,14 @@ use Rattle.frames.specs.Parts.{Parts}
 use Rattle.stations.specs.declared.answer.Counts.{Counts}
 use Rattle.stations.specs.declared.answer.Taken.{Taken}
 use Rattle.stations.specs.Station.{Block, Station}
+use Rattle.stations.specs.Answers.{some}
+use Rattle.stations.specs.Calls.{taken_by}
 use Rattle.stations.specs.Rule.{Heard, heard_i, heard_s}
 use Rattle.link.specs.declared.end.End.{End}
 use Rattle.link.specs.declared.refusal.LinkRefusal.{LinkRefusal}
 use Rattle.link.specs.declared.refusal.LinkRefusal.TheVariants.{Line, Timer, InUse, Station as ByStation}
 use Rattle.link.specs.State.{Measures, State}
-use Rattle.link.specs.Calls.{some, taken_by, takes_answer, takes_leaves}
+use Rattle.link.specs.Calls.{passed_on, takes_answer, takes_leaves}
 use Rattle.link.specs.History.{takes, Tally, Account, acknowledge, at_end, opening, note_taken, note_take, removed, notes}
 use Rattle.link.specs.Promise.{Whole}
 use Rattle.link.proofs.Ends.{told}
@@ -37,7 +39,7 @@ abbrev answered : Counts → Heard → Taken
 answered c h = record { counts = c; acknowledged = h.acknowledged; taken = some h.taken; passed = false }
 
 abbrev answered_by : Bool → Counts → Heard → Result Taken LinkRefusal
-answered_by r c h = taken_by r c h.acknowledged (some h.taken) false
+answered_by r c h = passed_on (taken_by r c h.acknowledged (some h.taken) false)
 
 abbrev noted : End → Parts → Taken → State → Account → Account
 noted e f a next y = at_end e (note_taken f a (opening e f a next)) y
@@ -70,8 +72,7 @@ pub acknowledge_none : (y : Tally) → acknowledge 0 y ≡ y
 acknowledge_none y = ap at_count (add-zero y.acknowledged)
   where
     at_count : ℕ → Tally
-    at_count n =
-        record { accepted = y.accepted; taken = y.taken; acknowledged = n; ever = y.ever; fetched = y.fetched }
+    at_count n = record y { acknowledged = n }
 
 -- what waits after an I frame, and after RR or RNR
 pub whole_info : (v w : Bool) (x : Station) (y : Tally) (nr : ℕ) (z : Block) →

@@ -1,5 +1,5 @@
 -- What time and strikes do to a way: ages change, frames become struck, entries leave, and nothing else.
-use Rattle.std.proofs.Common.{ℕ, zero, suc, ◌+◌, Bool, true, false, cond, leb, List, [], ◌∷◌, is_ok}
+use Rattle.std.proofs.Common.{ℕ, zero, suc, ◌+◌, ◌≤◌, Bool, true, false, cond, leb, List, [], ◌∷◌, length, is_ok, arith}
 use Rattle.frames.specs.Parts.{Parts}
 use Rattle.lines.specs.Entries.{Entry, struck, frame, at}
 use Rattle.lines.specs.Line.{older, keep_by, hit_at, strike_by}
@@ -50,3 +50,11 @@ thin_strike place start mask es = go (is_ok (strike_by (at es place) start mask)
     go : (w : Bool) → Thin es (cond w (hit_at place es) es)
     go true = thin_hit place es
     go false = thin_same es
+
+-- no entry comes
+pub thin_length : {es fs : List Entry} → Thin es fs → length fs ≤ length es
+thin_length none = omega arith
+thin_length (mute t) = let l = thin_length t in omega arith
+thin_length (same t) = let l = thin_length t in omega arith
+thin_length (hit t) = let l = thin_length t in omega arith
+thin_length (gone t) = let l = thin_length t in omega arith

@@ -1,13 +1,13 @@
 -- A call made again and again, and the parts of a drain one after the other: what is left leads to the same end.
-use Rattle.std.proofs.Common.{◌≡◌, ℕ, suc, ◌+◌, ◌-◌, ◌*◌, ◌<◌, ◌≤◌, Bool, List, [], ◌∷◌, ◌++◌, length, get_or, drop, replicate, sym, refl, ap, ◌∙◌, subst, ap₂, arith}
-use Rattle.std.proofs.lemmas.List.{at_drop_more, at_drop_all}
+use Rattle.std.proofs.Common.{◌≡◌, ℕ, ◌+◌, ◌<◌, ◌≤◌, Bool, List, [], ◌∷◌, ◌++◌, length, get_or, drop, replicate, sym, refl, ap, ◌∙◌, ap₂, arith}
+use Rattle.std.proofs.lemmas.List.{at_drop_more, at_drop_all, replicate_more}
 use Rattle.stations.specs.declared.answer.Counts.{Counts}
+use Rattle.stations.specs.Answers.{FewFrames}
 use Rattle.link.specs.declared.drained.Drained.{Drained}
 use Rattle.link.specs.declared.part.Part.{Part}
 use Rattle.link.specs.State.{Model}
-use Rattle.link.specs.History.{Call, step, run}
-use Rattle.link.specs.Drain.{part_calls, walk, frames_of, no_calls, more, counted_call, counted_all, settled_at, settled_by, drained}
-use Rattle.link.specs.Sizes.{Few, Grown}
+use Rattle.link.specs.History.{Call, opens, closes, polls, ticks, sends, takes, fetches, strikes, step, run}
+use Rattle.link.specs.Drain.{part_calls, walk, frames_of, no_calls, counted_call, counted_all, settled_at, settled_by, drained, total}
 use Rattle.link.proofs.Histories.{run_append}
 
 pub counted_append : (l : Model) (before after : List Call) (d : Drained) →
@@ -15,39 +15,26 @@ pub counted_append : (l : Model) (before after : List Call) (d : Drained) →
 counted_append l [] after d = refl
 counted_append l (c ∷ cs) after d = counted_append (step l c) cs after (counted_call c (frames_of c l) d)
 
--- ---- a call made n times, of which i are done: the link stood at l with the counts d, and stands at m with e
-pub record Repeats (n i : ℕ) (c : Call) (l m : Model) (d e : Drained) : Type 0 where
-  pub leads : run m (replicate (n - i) c) ≡ run l (replicate n c)
-  pub counts : counted_all m (replicate (n - i) c) e ≡ counted_all l (replicate n c) d
+-- ---- a call made once more
 
-pub repeats_none : (n : ℕ) (c : Call) (l : Model) (d : Drained) → Repeats n 0 c l l d d
-repeats_none n c l d =
-    let h : n ≡ n - 0 = omega arith in
-    record {
-      leads = subst (λ k. run l (replicate k c) ≡ run l (replicate n c)) h refl;
-      counts = subst (λ k. counted_all l (replicate k c) d ≡ counted_all l (replicate n c) d) h refl;
-    }
+pub run_again : (l : Model) (c : Call) (i : ℕ) → step (run l (replicate i c)) c ≡ run l (replicate (i + 1) c)
+run_again l c i = sym (run_append l (replicate i c) (c ∷ [])) ∙ ap (λ cs. run l cs) (replicate_more i c)
 
-module _ (n i : ℕ) (c : Call) (l m m' : Model) (d e e' : Drained) (h : Repeats n i c l m d e) where
-  pub repeats_more : i < n → m' ≡ step m c → e' ≡ counted_call c (frames_of c m) e → Repeats n (i + 1) c l m' d e'
-  repeats_more less p q =
-      let left : n - i ≡ suc (n - (i + 1)) = omega arith in
-      let rest : ℕ = n - (i + 1) in
-      record {
-        leads =
-            ap (λ k. run k (replicate rest c)) p
-            ∙ subst (λ k. run m (replicate k c) ≡ run l (replicate n c)) left h.leads;
-        counts =
-            ap₂ (λ k x. counted_all k (replicate rest c) x) p q
-            ∙ subst (λ k. counted_all m (replicate k c) e ≡ counted_all l (replicate n c) d) left h.counts;
-      }
+pub counted_again : (l : Model) (c : Call) (i : ℕ) (d : Drained) →
+    counted_call c (frames_of c (run l (replicate i c))) (counted_all l (replicate i c) d) ≡ counted_all l (replicate (i + 1) c) d
+counted_again l c i d =
+    sym (counted_append l (replicate i c) (c ∷ []) d) ∙ ap (λ cs. counted_all l cs d) (replicate_more i c)
 
-  pub repeats_all : n ≤ i → (m ≡ run l (replicate n c)) × (e ≡ counted_all l (replicate n c) d)
-  repeats_all most =
-      let none : n - i ≡ 0 = omega arith in (
-        subst (λ k. run m (replicate k c) ≡ run l (replicate n c)) none h.leads,
-        subst (λ k. counted_all m (replicate k c) e ≡ counted_all l (replicate n c) d) none h.counts,
-      )
+-- a call puts and loses at most 8 frames each, and is a tick or a take at most
+pub total_again : (c : Call) (f : Counts) (d : Drained) → FewFrames f → total (counted_call c f d) ≤ total d + 17
+total_again opens f d h = omega (arith, h.put, h.lost)
+total_again closes f d h = omega (arith, h.put, h.lost)
+total_again polls f d h = omega (arith, h.put, h.lost)
+total_again ticks f d h = omega (arith, h.put, h.lost)
+total_again (sends e z) f d h = omega (arith, h.put, h.lost)
+total_again (takes e) f d h = omega (arith, h.put, h.lost)
+total_again (fetches e) f d h = omega (arith, h.put, h.lost)
+total_again (strikes w place start mask) f d h = omega (arith, h.put, h.lost)
 
 -- ---- parts, of which i are done
 pub record Walks (ps : List Part) (i : ℕ) (l m : Model) (d e : Drained) : Type 0 where
@@ -85,47 +72,3 @@ module _ (ps : List Part) (i : ℕ) (l m m' : Model) (d e e' : Drained) (h : Wal
 pub answered : (l m : Model) (calls : List Call) (d : Drained) (b : Bool) →
     b ≡ settled_at m.now → m ≡ run l calls → d ≡ counted_all l calls no_calls → settled_by b d ≡ drained l calls
 answered l m calls d b e p q = ap₂ settled_by (e ∙ ap (λ k. settled_at k.now) p) q
-
--- ---- counts that grow little
-
-pub grown_none : (d : Drained) → Grown 0 d d
-grown_none d = record { put = omega arith; lost = omega arith; ticks = omega arith; takes = omega arith }
-
--- one call more, by at most b
-pub grown_more : (b n i j : ℕ) (c : Counts) (d e e' : Drained) →
-    c.put ≤ b → c.lost ≤ b → i ≤ b → j ≤ b → e' ≡ more i j c e → Grown n d e → Grown (n + b) d e'
-grown_more b n i j c d e e' x y z w p h =
-    subst (Grown (n + b) d) (sym p) (record {
-      put = omega (arith, h.put);
-      lost = omega (arith, h.lost);
-      ticks = omega (arith, h.ticks);
-      takes = omega (arith, h.takes);
-    })
-
--- by at most 8 each time
-pub grown_again : (i : ℕ) (d e e' : Drained) → Grown (8 * i) d e → Grown 8 e e' → Grown (8 * (i + 1)) d e'
-grown_again i d e e' h k =
-    record {
-      put = omega (arith, h.put, k.put);
-      lost = omega (arith, h.lost, k.lost);
-      ticks = omega (arith, h.ticks, k.ticks);
-      takes = omega (arith, h.takes, k.takes);
-    }
-
-pub grown_within : (m n : ℕ) (d e : Drained) → m ≤ n → Grown m d e → Grown n d e
-grown_within m n d e l h =
-    record {
-      put = omega (arith, h.put);
-      lost = omega (arith, h.lost);
-      ticks = omega (arith, h.ticks);
-      takes = omega (arith, h.takes);
-    }
-
-pub few_grown : (m n k : ℕ) (d e : Drained) → m + n ≤ k → Few m d → Grown n d e → Few k e
-few_grown m n k d e l f h =
-    record {
-      put = omega (arith, f.put, h.put);
-      lost = omega (arith, f.lost, h.lost);
-      ticks = omega (arith, f.ticks, h.ticks);
-      takes = omega (arith, f.takes, h.takes);
-    }

@@ -1,5 +1,5 @@
 -- What each call on a link answers, and what the link then holds.
-use Rattle.std.specs.Prelude.{ℕ, Bool, true, false, cond, List, [], ◌∷◌, ◌++◌, length, drop, is_ok, Some, None, Ok, Err, Option, Result}
+use Rattle.std.specs.Prelude.{ℕ, cond, List, [], ◌∷◌, ◌++◌, length, drop, is_ok, Some, None, Ok, Err, Option, Result}
 use Rattle.frames.specs.declared.way.Way.{Way}
 use Rattle.frames.specs.declared.way.Way.TheVariants.{One, Two}
 use Rattle.lines.specs.declared.refusal.LineRefusal.{LineRefusal}
@@ -9,10 +9,11 @@ use Rattle.lines.specs.Line.{older, strike_by, hit_at}
 use Rattle.stations.specs.declared.answer.Counts.{Counts}
 use Rattle.stations.specs.declared.answer.Taken.{Taken}
 use Rattle.stations.specs.declared.refusal.StationRefusal.{StationRefusal}
-use Rattle.stations.specs.declared.refusal.StationRefusal.TheVariants.{Numbering}
 use Rattle.stations.specs.Station as end
 use Rattle.stations.specs.Station.{Block}
-use Rattle.stations.specs.Puts.{counts}
+use Rattle.stations.specs.Puts.{no_counts, counts}
+use Rattle.stations.specs.Answers.{some}
+use Rattle.stations.specs.Calls.{taken_by}
 use Rattle.stations.specs.Primary.{Move, primary_hears, primary_ticks, primary_opens, primary_closes, primary_polls, primary_sends}
 use Rattle.stations.specs.Secondary.{Reply, secondary_hears, secondary_sends}
 use Rattle.link.specs.declared.fetched.Fetched.{Fetched}
@@ -21,6 +22,11 @@ use Rattle.link.specs.declared.end.End.TheVariants.{Primary, Secondary}
 use Rattle.link.specs.declared.refusal.LinkRefusal.{LinkRefusal}
 use Rattle.link.specs.declared.refusal.LinkRefusal.TheVariants.{Line, Station}
 use Rattle.link.specs.State.{Measures, State, state, Model}
+
+-- a station's answer, where a refusal of the station is passed on
+abbrev pub passed_on : {A : Type 0} → Result A StationRefusal → Result A LinkRefusal
+passed_on (Err e) = Err (Station e)
+passed_on (Ok a) = Ok a
 
 -- ---- a move of the primary, a reply of the secondary
 
@@ -42,9 +48,6 @@ counted (Ok r) before = Ok (counts r.tried before r.out)
 abbrev pub replied : Result Reply StationRefusal → List Entry → Result Counts LinkRefusal
 replied (Err e) before = Err (Station e)
 replied (Ok r) before = Ok (counts r.tried before r.out)
-
-abbrev pub none_put : Counts
-none_put = record { put = 0; lost = 0 }
 
 -- ---- open, close, poll, send
 
@@ -76,20 +79,12 @@ sends_leaves g Secondary z (state one two m t u p s) = by_secondary (secondary_s
 
 -- ---- take: a line's take, then the station's rule
 
-abbrev pub some : List Block → Bool
-some [] = false
-some (z ∷ zs) = true
-
--- a frame that the number rule refuses is gone all the same
-abbrev pub taken_by : Bool → Counts → ℕ → Bool → Bool → Result Taken LinkRefusal
-taken_by true c n taken over = Err (Station Numbering)
-taken_by false c n taken over = Ok (record { counts = c; acknowledged = n; taken = taken; passed = over })
-
+-- what a frame made; one that the number rule refuses is gone all the same
 abbrev pub moved : Move → List Entry → Result Taken LinkRefusal
-moved r before = taken_by r.refused (counts r.tried before r.out) r.acknowledged (some r.taken) r.over
+moved r before = passed_on (taken_by r.refused (counts r.tried before r.out) r.acknowledged (some r.taken) r.over)
 
 abbrev pub reacted : Reply → List Entry → Result Taken LinkRefusal
-reacted r before = taken_by r.refused (counts r.tried before r.out) r.acknowledged (some r.taken) r.over
+reacted r before = passed_on (taken_by r.refused (counts r.tried before r.out) r.acknowledged (some r.taken) r.over)
 
 abbrev pub takes_answer : Measures → End → State → Result Taken LinkRefusal
 takes_answer g Primary (state one [] m t u p s) = Err (Line Idle)
@@ -120,18 +115,14 @@ ticks_leaves g (state one two m t u p s) =
 
 -- ---- fetch: the oldest waiting block, in any mode
 
-abbrev pub fetched_by : Result Block StationRefusal → Result Block LinkRefusal
-fetched_by (Err e) = Err (Station e)
-fetched_by (Ok z) = Ok z
-
 abbrev pub fetches_answer : End → State → Result Block LinkRefusal
-fetches_answer Primary (state one two m t u p s) = fetched_by (end.fetch_answer p)
-fetches_answer Secondary (state one two m t u p s) = fetched_by (end.fetch_answer s)
+fetches_answer Primary (state one two m t u p s) = passed_on (end.fetch_answer p)
+fetches_answer Secondary (state one two m t u p s) = passed_on (end.fetch_answer s)
 
 -- it answers the block's length, and writes the block to the front of the place
 abbrev pub fetched : Result Block LinkRefusal → Result Fetched LinkRefusal
 fetched (Err e) = Err e
-fetched (Ok z) = Ok (record { counts = none_put; length = length z })
+fetched (Ok z) = Ok (record { counts = no_counts; length = length z })
 
 abbrev pub fetch_writes : Result Block LinkRefusal → List ℕ → List ℕ
 fetch_writes (Err e) place = place
@@ -145,7 +136,7 @@ fetches_leaves Secondary (state one two m t u p s) = state one two m t u p (end.
 
 abbrev pub struck_by : Result (Unit {0}) LineRefusal → Result Counts LinkRefusal
 struck_by (Err e) = Err (Line e)
-struck_by (Ok x) = Ok none_put
+struck_by (Ok x) = Ok no_counts
 
 abbrev pub strikes_answer : Way → ℕ → ℕ → ℕ → State → Result Counts LinkRefusal
 strikes_answer One place start mask (state one two m t u p s) = struck_by (strike_by (at one place) start mask)
@@ -170,7 +161,7 @@ held_by None before after = after
 
 -- the link after a call that leaves this state
 abbrev pub after : Model → (Measures → State → State) → Model
-after l f = record { fault = l.fault; measures = l.measures; now = held_by l.fault l.now (f l.measures l.now) }
+after l f = record l { now = held_by l.fault l.now (f l.measures l.now) }
 
 -- and what the call answers
 abbrev pub asked : {A : Type 0} → Model → (Measures → State → Result A LinkRefusal) → Result A LinkRefusal

@@ -4,6 +4,8 @@ use Rattle.frames.specs.declared.way.Way.{Way}
 use Rattle.frames.specs.declared.way.Way.TheVariants.{One, Two}
 use Rattle.stations.specs.declared.answer.Counts.{Counts}
 use Rattle.stations.specs.declared.answer.Taken.{Taken}
+use Rattle.stations.specs.Counts.{all_of}
+use Rattle.stations.specs.Puts.{no_counts}
 use Rattle.stations.specs.declared.refusal.StationRefusal.TheVariants.{Mode}
 use Rattle.stations.specs.Primary.{Timer, is_open}
 use Rattle.link.specs.declared.drained.Drained.{Drained}
@@ -15,7 +17,7 @@ use Rattle.link.specs.declared.refusal.LinkRefusal.{LinkRefusal}
 use Rattle.link.specs.declared.refusal.LinkRefusal.TheVariants.{Station}
 use Rattle.link.specs.State.{State, state, Model}
 use Rattle.link.specs.Questions.{mode_of, outstanding_at, entries_on}
-use Rattle.link.specs.Calls.{none_put, asked, opens_answer, closes_answer, polls_answer, sends_answer, takes_answer, ticks_answer}
+use Rattle.link.specs.Calls.{asked, opens_answer, closes_answer, polls_answer, sends_answer, takes_answer, ticks_answer}
 use Rattle.link.specs.History.{Call, opens, closes, polls, ticks, sends, takes, fetches, strikes, step, run}
 
 -- ---- the walk
@@ -57,11 +59,11 @@ walk (p ∷ ps) l = part_calls p l ++ walk ps (run l (part_calls p l))
 
 abbrev pub counts_by : Result Counts LinkRefusal → Counts
 counts_by (Ok c) = c
-counts_by (Err e) = none_put
+counts_by (Err e) = no_counts
 
 abbrev pub taken_counts : Result Taken LinkRefusal → Counts
 taken_counts (Ok a) = a.counts
-taken_counts (Err e) = none_put
+taken_counts (Err e) = no_counts
 
 -- the frames that a call puts and loses; none where it is refused
 abbrev pub frames_of : Call → Model → Counts
@@ -71,21 +73,19 @@ frames_of polls l = counts_by (asked l polls_answer)
 frames_of ticks l = counts_by (asked l ticks_answer)
 frames_of (sends e z) l = counts_by (asked l (λ g x. sends_answer g e z x))
 frames_of (takes e) l = taken_counts (asked l (λ g x. takes_answer g e x))
-frames_of (fetches e) l = none_put
-frames_of (strikes w place start mask) l = none_put
+frames_of (fetches e) l = no_counts
+frames_of (strikes w place start mask) l = no_counts
+
+-- all that is counted
+abbrev pub total : Drained → ℕ
+total d = d.counts.put + d.counts.lost + d.ticks + d.takes
 
 abbrev pub no_calls : Drained
-no_calls = record { counts = none_put; ticks = 0; takes = 0; settled = false }
+no_calls = record { counts = no_counts; ticks = 0; takes = 0; settled = false }
 
 -- so many ticks and takes more, and these frames
 abbrev pub more : ℕ → ℕ → Counts → Drained → Drained
-more i j c d =
-    record {
-      counts = record { put = d.counts.put + c.put; lost = d.counts.lost + c.lost };
-      ticks = d.ticks + i;
-      takes = d.takes + j;
-      settled = d.settled;
-    }
+more i j c d = record d { counts = all_of d.counts c; ticks = d.ticks + i; takes = d.takes + j }
 
 -- a tick counts as a tick, and a take as a take, of a struck entry too
 abbrev pub counted_call : Call → Counts → Drained → Drained
@@ -110,7 +110,7 @@ abbrev pub settled_at : State → Bool
 settled_at x = outstanding_at Primary x == 0 && outstanding_at Secondary x == 0
 
 abbrev pub settled_by : Bool → Drained → Drained
-settled_by b d = record { counts = d.counts; ticks = d.ticks; takes = d.takes; settled = b }
+settled_by b d = record d { settled = b }
 
 -- a link that its check refused answers that; the primary must be open
 abbrev pub drain_refusal : Option LinkRefusal → Bool → Option LinkRefusal

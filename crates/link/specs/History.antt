@@ -62,24 +62,20 @@ abbrev pub no_tally : Tally
 no_tally = record { accepted = []; taken = []; acknowledged = 0; ever = []; fetched = [] }
 
 abbrev pub accept : Block → Tally → Tally
-accept z y =
-    record { accepted = y.accepted ++ (z ∷ []); taken = y.taken; acknowledged = y.acknowledged; ever = y.ever; fetched = y.fetched }
+accept z y = record y { accepted = y.accepted ++ (z ∷ []) }
 
 abbrev pub acknowledge : ℕ → Tally → Tally
-acknowledge n y =
-    record { accepted = y.accepted; taken = y.taken; acknowledged = y.acknowledged + n; ever = y.ever; fetched = y.fetched }
+acknowledge n y = record y { acknowledged = y.acknowledged + n }
 
 abbrev pub take_in : Block → Tally → Tally
-take_in z y =
-    record { accepted = y.accepted; taken = y.taken ++ (z ∷ []); acknowledged = y.acknowledged; ever = y.ever ++ (z ∷ []); fetched = y.fetched }
+take_in z y = record y { taken = y.taken ++ (z ∷ []); ever = y.ever ++ (z ∷ []) }
 
 abbrev pub fetch : Block → Tally → Tally
-fetch z y =
-    record { accepted = y.accepted; taken = y.taken; acknowledged = y.acknowledged; ever = y.ever; fetched = y.fetched ++ (z ∷ []) }
+fetch z y = record y { fetched = y.fetched ++ (z ∷ []) }
 
 -- the end opens: what counts since opening starts anew
 abbrev pub restart : Tally → Tally
-restart y = record { accepted = []; taken = []; acknowledged = 0; ever = y.ever; fetched = y.fetched }
+restart y = record y { accepted = []; taken = []; acknowledged = 0 }
 
 abbrev pub at_end : End → (Tally → Tally) → Account → Account
 at_end Primary f (account p s) = account (f p) s

@@ -12,4 +12,4 @@ meant code.Tick = ticks
 meant (code.Send e z) = sends e (octets_in z)
 meant (code.Take e) = takes e
 meant (code.Fetch e) = fetches e
-meant (code.Strike w place start mask) = strikes w place start mask
+meant (code.Strike w place burst) = strikes w place burst.start burst.mask

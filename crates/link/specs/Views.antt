@@ -1,12 +1,17 @@
 -- What the code's link holds.
-use Rattle.std.specs.Prelude.{ℕ, Option}
+use Rattle.std.specs.Prelude.{ℕ, Some, None, Ok, Err, Option, Result}
 use Rattle.lines.specs.Entries.{Lists}
 use Rattle.stations.specs.Views.{PrimaryView, SecondaryView, primary_of, secondary_of}
 use Rattle.link.specs.declared.refusal.LinkRefusal.{LinkRefusal}
 use Rattle.link.specs.declared.link.Link.{Link}
-use Rattle.link.specs.State.{State, state, Model}
+use Rattle.link.specs.State.{state, Model}
 
--- the refusal of the check, the line's meaning, T and the two ends, put together
+-- the refusal that the check answered, if any
+abbrev pub fault_in : Result (Unit {0}) LinkRefusal → Option LinkRefusal
+fault_in (Ok x) = None
+fault_in (Err e) = Some e
+
+-- that refusal, the line's meaning, T and the two ends, put together
 abbrev pub model_of : Option LinkRefusal → Lists → ℕ → PrimaryView → SecondaryView → Model
 model_of fault l t p s =
     record {
@@ -17,8 +22,4 @@ model_of fault l t p s =
 
 -- over any line, by the line's meaning
 abbrev pub model : {L : Type 0} → (L → Lists) → Link L → Model
-model meaning c = model_of c.fault (meaning c.line) c.limit (primary_of c.primary) (secondary_of c.secondary)
-
--- the link in another state
-abbrev pub with_state : State → Model → Model
-with_state x l = record { fault = l.fault; measures = l.measures; now = x }
+model meaning c = model_of (fault_in c.checked) (meaning c.line) c.limit (primary_of c.primary) (secondary_of c.secondary)

@@ -1,6 +1,6 @@
 // The calls on a link, as values, so that a list of them can be played.
 use crate::End;
-use frames::{Block, Way};
+use frames::{Block, Burst, Way};
 
 #[derive(Clone, Copy)]
 pub enum Call {
@@ -11,5 +11,5 @@ pub enum Call {
     Send(End, Block),
     Take(End),
     Fetch(End),
-    Strike(Way, usize, usize, u16),
+    Strike(Way, usize, Burst),
 }

@@ -1,4 +1,4 @@
-// The parts that a drain is made of.
+// The parts that a drain is made of. They are values and no closures, since the definition of the walk is a list of them.
 use crate::End;
 
 #[derive(Clone, Copy)]

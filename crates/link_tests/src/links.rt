@@ -1,7 +1,7 @@
 // What a fetch writes, and where a list of calls leads.
 use crate::answers::*;
 use frames::Way;
-use lines::{Blank, Line, Record, TableLine};
+use lines::{Blank, Line, Record};
 use link::{Call, End, Link};
 use std::process::Abort;
 use std::test::Fail;
@@ -14,16 +14,16 @@ fn fetches<L: Line>(rt: &impl Abort, link: &mut Link<L>) -> Result<(), Fail> {
     let _ = link.send(End::Secondary, &[1, 2, 3])?;
     let _ = link.send(End::Secondary, &[])?;
     let _ = link.send(End::Secondary, &[4; 64])?;
-    repeat(rt, link, 3, Call::Take(End::Primary), block_heard(0, true));
+    takes(rt, link, End::Primary, 3, block_heard(0, true));
     let mut expected = [0xaa; 64];
     expected[0] = 1;
     expected[1] = 2;
     expected[2] = 3;
-    assert_eq!(rt; link.fetch(End::Primary, &mut place)?.length, 3);
+    same(rt, link.fetch(End::Primary, &mut place)?.length, 3);
     assert!(rt; place == expected);
-    assert_eq!(rt; link.fetch(End::Primary, &mut place)?.length, 0);
+    same(rt, link.fetch(End::Primary, &mut place)?.length, 0);
     assert!(rt; place == expected);
-    assert_eq!(rt; link.fetch(End::Primary, &mut place)?.length, 64);
+    same(rt, link.fetch(End::Primary, &mut place)?.length, 64);
     assert!(rt; place == [4; 64]);
     assert!(rt; link.fetch(End::Primary, &mut place).is_err());
     assert!(rt; place == [4; 64]);
@@ -32,22 +32,19 @@ fn fetches<L: Line>(rt: &impl Abort, link: &mut Link<L>) -> Result<(), Fail> {
 
 #[test]
 fn fetch_leaves_the_octets_behind(rt: HostRuntime) -> Result<(), Fail> {
-    let mut one = [Record::blank(); 8];
-    let mut two = [Record::blank(); 8];
-    let mut link = Link::make(TableLine::make(8, 2, &mut one, &mut two), 5);
-    fetches(&rt, &mut link)
+    on_a_link(|link| fetches(&rt, link))
 }
 
 // What the questions answer is the same at both links.
 fn alike<L: Line>(rt: &impl Abort, link: &Link<L>, other: &Link<L>) {
-    assert_eq!(rt; link.primary_mode(), other.primary_mode());
-    assert_eq!(rt; link.secondary_mode(), other.secondary_mode());
+    same(rt, link.primary_mode(), other.primary_mode());
+    same(rt, link.secondary_mode(), other.secondary_mode());
     for end in [End::Primary, End::Secondary] {
-        assert_eq!(rt; link.outstanding(end), other.outstanding(end));
-        assert_eq!(rt; link.waiting(end), other.waiting(end));
+        same(rt, link.outstanding(end), other.outstanding(end));
+        same(rt, link.waiting(end), other.waiting(end));
     }
     for way in [Way::One, Way::Two] {
-        assert_eq!(rt; link.entries(way), other.entries(way));
+        same(rt, link.entries(way), other.entries(way));
     }
 }
 
@@ -67,7 +64,7 @@ fn play_leads_where_calls_lead(rt: HostRuntime) {
         &[Call::Take(End::Secondary), Call::Take(End::Primary)],
         &[send(End::Primary, 1), send(End::Secondary, 2), Call::Poll],
         &[
-            Call::Strike(Way::One, 0, 0, 1),
+            Call::Strike(Way::One, 0, burst(0, 1)),
             Call::Take(End::Secondary),
             Call::Take(End::Secondary),
             Call::Take(End::Primary),
@@ -85,10 +82,10 @@ fn play_leads_where_calls_lead(rt: HostRuntime) {
     ];
     let mut one = [Record::blank(); 8];
     let mut two = [Record::blank(); 8];
-    let mut link = Link::make(TableLine::make(8, 2, &mut one, &mut two), 5);
+    let mut link = table_link(&mut one, &mut two);
     let mut first = [Record::blank(); 8];
     let mut second = [Record::blank(); 8];
-    let mut other = Link::make(TableLine::make(8, 2, &mut first, &mut second), 5);
+    let mut other = table_link(&mut first, &mut second);
     for calls in lists {
         led(&rt, &mut link, &mut other, calls);
     }

@@ -1,19 +1,21 @@
-// Rows of a line by itself, and of a primary over it.
+// Cases of a line by itself, and of a primary over it.
+use crate::answers::refusal;
+use crate::both::Case;
 use frames::{Block, FrameBuf, Kind, Way};
 use lines::Line;
 use link::Link;
 use stations::Primary;
 
 // 6: over a line of D = 2, T = 4 is refused with 16 and T = 5 is not.
-pub fn poll_timer<L: Line>(line: &L) -> bool {
-    let short = match Link::check(line, 4) {
-        Ok(_) => 0,
-        Err(refusal) => refusal.number(),
-    };
-    short == 16 && Link::check(line, 5).is_ok()
+pub struct PollTimer;
+
+impl Case for PollTimer {
+    fn holds<L: Line + Drop>(line: L) -> bool {
+        refusal(Link::check(&line, 4)) == Some(16) && Link::check(&line, 5).is_ok()
+    }
 }
 
-// A frame of the secondary that has no information.
+// A frame of the secondary that has no information. (A literal, since it cannot fail as a conversion of parts can.)
 fn from_secondary(kind: Kind, nr: u8) -> FrameBuf {
     FrameBuf {
         kind,
@@ -35,10 +37,8 @@ fn opened<L: Line>(line: &mut L) -> Primary {
 
 // Whether the only frame on way 1 is I with this N(S); it is taken.
 fn numbered<L: Line>(line: &mut L, ns: u8) -> bool {
-    match line.take(Way::One) {
-        Ok(frame) => frame.kind == Kind::I && frame.ns == ns && line.count(Way::One) == 0,
-        Err(_) => false,
-    }
+    let taken = line.take(Way::One);
+    taken.is_ok_and(|frame| frame.kind == Kind::I && frame.ns == ns) && line.count(Way::One) == 0
 }
 
 // The primary sends a block, whose frame on the line has this N(S).
@@ -54,12 +54,12 @@ fn hears<L: Line>(primary: &mut Primary, line: &mut L, ns: u8) -> bool {
 
 // 13: a connection's first eight blocks have N(S) 0 to 7, and its ninth has 0. Each is looked at on the line, so a primary
 // is played alone, and the line is its far end.
-pub fn ninth_block<L: Line>(line: &mut L) -> bool {
-    let mut primary = opened(line);
-    for ns in [0, 1, 2, 3, 4, 5, 6, 7, 0] {
-        if !sends(&mut primary, line, ns) || !hears(&mut primary, line, ns) {
-            return false;
-        }
+pub struct NinthBlock;
+
+impl Case for NinthBlock {
+    fn holds<L: Line + Drop>(mut line: L) -> bool {
+        let mut primary = opened(&mut line);
+        [0, 1, 2, 3, 4, 5, 6, 7, 0].iter().all(|ns| sends(&mut primary, &mut line, *ns)
+            && hears(&mut primary, &mut line, *ns))
     }
-    true
 }

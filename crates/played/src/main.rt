@@ -8,31 +8,45 @@ mod frame_rows;
 mod line_rows;
 mod link_rows;
 
-use both::over_both;
-use frame_rows::frame_row;
+use both::over_both_lines;
+use frame_rows::*;
+use line_rows::*;
+use link_rows::*;
 use std::io;
 use std::process::ExitCode;
 
-fn row(n: u8) -> bool {
-    match n {
-        1 | 2 | 3 | 4 | 5 | 15 => frame_row(n),
-        _ => over_both(n),
-    }
+// Whether each case comes out, in the order of their numbers.
+fn played() -> [bool; 15] {
+    [
+        sarm_on_way_one(),
+        dm_on_way_two(),
+        on_both_ways(numbers_of_a_block),
+        on_both_ways(numbers_of_a_status),
+        on_both_ways(no_such_control),
+        over_both_lines::<PollTimer>(),
+        over_both_lines::<LastStrike>(),
+        over_both_lines::<ThirdTick>(),
+        over_both_lines::<AsksAgain>(),
+        over_both_lines::<FullWindow>(),
+        over_both_lines::<Drains>(),
+        over_both_lines::<FarBusy>(),
+        over_both_lines::<NinthBlock>(),
+        over_both_lines::<LongestBlock>(),
+        on_both_ways(short_and_long),
+    ]
 }
 
-// Plays every row, and tells whether all are as they should be.
+// Shows every case, and tells whether all are as they should be.
 fn run(rt: &HostRuntime) -> io::Result<bool> {
-    let mut all = true;
-    for n in 1..16u8 {
-        let good = row(n);
-        let word = if good { "ok" } else { "bad" };
+    let rows = played();
+    for (n, good) in (1..=15).zip(&rows) {
+        let word = if *good { "ok" } else { "bad" };
         println!(rt; "{n} {word}")?;
-        all = all && good;
     }
-    Ok(all)
+    Ok(rows.iter().all(|good| *good))
 }
 
-// Ends with status 1 where a row is bad, or where writing failed, which is reported.
+// Ends with status 1 where a case is bad, or where writing failed, which is reported.
 fn main(rt: HostRuntime) -> io::Result<ExitCode> {
     if run(&rt)? {
         Ok(ExitCode::SUCCESS)

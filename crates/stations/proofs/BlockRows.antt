@@ -1,32 +1,9 @@
 -- Rows of blocks: what joins the end, what leaves the front, what stands at a place.
-use Rattle.std.proofs.Common.{◌≡◌, ℕ, zero, suc, ◌+◌, ◌-◌, ◌<◌, ◌≤◌, min, List, [], ◌∷◌, ◌++◌, map, length, get_or, take, drop, set, Some, None, sym, refl, ap, ◌∙◌, arith}
-use Rattle.std.proofs.lemmas.List.{length-map, length-take-le, take_more_set, map_push, map-set, set-get_or, take-map, get_or-map, get_or_default, length-set, drop-map, drop-take, same_lists, length-append, length-take, length-drop, take_at, places, get_or-set_same, get_or-set_other, get_or-take, drop_all}
-use Rattle.std.proofs.lemmas.Bool.{cases_eq}
+use Rattle.std.proofs.Common.{◌≡◌, ℕ, zero, suc, ◌+◌, ◌-◌, ◌≤◌, min, List, [], ◌∷◌, map, length, take, drop, sym, ap, ◌∙◌, arith}
+use Rattle.std.proofs.lemmas.List.{length-map, length-take-le, drop-map, drop-take, length-drop, take_at, drop_all}
 use Rattle.frames.specs.declared.block.Block.{Block}
 use Rattle.frames.specs.Blocks.{octets_in}
-use Rattle.lines.specs.Entries.{at}
-
--- ---- blocks one place down
-
-pub moved_more : {A : Type 0} (xs cur : List A) (n k : ℕ) (d : A) → n ≤ k → k < length xs
-    → cur ≡ take (k - n) (drop n xs) ++ drop (k - n) xs
-    → set cur (k - n) (get_or cur k d) ≡ take (k + 1 - n) (drop n xs) ++ drop (k + 1 - n) xs
-moved_more xs cur n k d o h e =
-    let l : length cur ≡ length xs = ap length e ∙ simp (length-append, length-take, length-drop) (omega arith) in
-    same_lists _ _
-    (simp (length-set, length-append, length-take, length-drop) (omega arith))
-    (λ i y m. grind (arith, places, get_or-set_same, get_or-set_other, cases_eq i (k - n), get_or_default))
-
-pub moved_all : {A : Type 0} (xs cur : List A) (n k c : ℕ) → n ≤ c → k ≡ c → c ≤ length xs
-    → cur ≡ take (k - n) (drop n xs) ++ drop (k - n) xs → take (c - n) cur ≡ drop n (take c xs)
-moved_all xs cur n k c p q h e =
-    let a : length (take (k - n) (drop n xs)) ≡ c - n =
-    length-take-le (k - n) (drop n xs) (omega (arith, length-drop n xs)) ∙ ap (λ m. m - n) q in
-    let b : n + (c - n) ≡ c = omega arith in
-    ap (take (c - n)) e ∙ take_at (take (k - n) (drop n xs)) (drop (k - n) xs) (c - n) a
-    ∙ ap (λ m. take (m - n) (drop n xs)) q ∙ sym (drop-take n (c - n) xs) ∙ ap (λ m. drop n (take m xs)) b
-
--- ---- the octets of a row
+use lib.Seq.{paste}
 
 abbrev pub row : ℕ → List Block → List (List ℕ)
 row n bs = map octets_in (take n bs)
@@ -34,36 +11,14 @@ row n bs = map octets_in (take n bs)
 pub row_length : (n : ℕ) (bs : List Block) → n ≤ length bs → length (row n bs) ≡ n
 row_length n bs h = length-map (take n bs) octets_in ∙ length-take-le n bs h
 
-pub row_push : (n : ℕ) (bs : List Block) (b : Block) → n < length bs → row (n + 1) (set bs n b) ≡ row n bs ++ octets_in b ∷ []
-row_push n bs b h = ap (map octets_in) (take_more_set bs n b h) ∙ map_push octets_in (take n bs) b
-
--- a block that was written to, or kept its octets
-pub row_kept : (n : ℕ) (bs : List Block) (i : ℕ) (x o : Block) → i < length bs → octets_in x ≡ octets_in (get_or bs i o)
-    → row n (set bs i x) ≡ row n bs
-row_kept n bs i x o h e =
-    sym (take-map octets_in n (set bs i x))
-    ∙ ap (take n) (map-set octets_in bs i x ∙ ap (set (map octets_in bs) i) (e ∙ sym (get_or-map octets_in bs i o [] h)) ∙ set-get_or (map octets_in bs) i [])
-    ∙ take-map octets_in n bs
-
-pub row_drop : (n c : ℕ) (bs cs : List Block) → take (c - n) cs ≡ drop n (take c bs) → row (c - n) cs ≡ drop n (row c bs)
-row_drop n c bs cs e = ap (map octets_in) e ∙ sym (drop-map octets_in n (take c bs))
-
-pub at_some : {A : Type 0} (d : A) (xs : List A) (i : ℕ) → i < length xs → at xs i ≡ Some (get_or xs i d)
-at_some d [] i h = absurd (omega arith)
-at_some d (x ∷ xs) zero h = refl
-at_some d (x ∷ xs) (suc i) h = at_some d xs i (omega arith)
-
-pub at_none : {A : Type 0} (xs : List A) (i : ℕ) → length xs ≤ i → at xs i ≡ None
-at_none [] i h = refl
-at_none (x ∷ xs) zero h = absurd (omega arith)
-at_none (x ∷ xs) (suc i) h = at_none xs i (omega arith)
-
-pub row_at : (n : ℕ) (bs : List Block) (i : ℕ) (o : Block) → n ≤ length bs → i < n → Some (octets_in (get_or bs i o)) ≡ at (row n bs) i
-row_at n bs i o h l =
-    let a : length (take n bs) ≡ n = length-take-le n bs h in
-    sym
-    (at_some [] (row n bs) i (omega (arith, row_length n bs h))
-    ∙ ap Some (get_or-map octets_in (take n bs) i o [] (omega arith) ∙ ap octets_in (get_or-take n bs i o l)))
+-- those behind the first n move down to the front
+pub row_drop : (n c : ℕ) (bs : List Block) → n ≤ c → c ≤ length bs → row (c - n) (paste bs 0 (drop n bs) (c - n)) ≡ drop n (row c bs)
+row_drop n c bs p h =
+    let l : length (take (c - n) (drop n bs)) ≡ c - n = length-take-le (c - n) (drop n bs) (omega (arith, length-drop n bs)) in
+    let m : n + (c - n) ≡ c = omega arith in
+    ap (map octets_in)
+    (take_at (take (c - n) (drop n bs)) (drop (0 + (c - n)) bs) (c - n) l ∙ sym (drop-take n (c - n) bs) ∙ ap (λ k. drop n (take k bs)) m)
+    ∙ sym (drop-map octets_in n (take c bs))
 
 -- to drop more than there are is to drop all
 pub drop_least : {A : Type 0} (xs : List A) (n c : ℕ) → length xs ≡ c → drop (min n c) xs ≡ drop n xs

@@ -3,14 +3,16 @@ use Rattle.std.specs.Prelude.{ℕ, Bool, true, false, cond, List, [], ◌∷◌,
 use Rattle.stations.specs.declared.answer.Counts.{Counts}
 use Rattle.stations.specs.declared.answer.Heard.{Heard as Answer}
 use Rattle.stations.specs.declared.answer.Taken.{Taken}
+use Rattle.stations.specs.declared.number.Number.{Number}
 use Rattle.stations.specs.declared.refusal.StationRefusal.{StationRefusal}
 use Rattle.stations.specs.declared.refusal.StationRefusal.TheVariants.{Numbering}
 use Rattle.stations.specs.Station.{Block, Station, passed, allowed, acknowledge, sent}
+use Rattle.stations.specs.Puts.{no_counts}
 use Rattle.stations.specs.Rule.{Heard}
 
 -- N(R) is allowed: how many blocks it passes
-abbrev pub passing : Station → ℕ → Option ℕ
-passing x nr = cond (allowed x nr) (Some (passed x nr)) None
+abbrev pub passing : Station → ℕ → Result ℕ StationRefusal
+passing x nr = cond (allowed x nr) (Ok (passed x nr)) (Err Numbering)
 
 abbrev pub after_number : Station → ℕ → Station
 after_number x nr = cond (allowed x nr) (acknowledge x nr) x
@@ -28,7 +30,22 @@ rule_by false n taken = Ok (record { acknowledged = n; taken = taken })
 abbrev pub rule_answer : Heard → Result Answer StationRefusal
 rule_answer h = rule_by h.refused h.acknowledged (some h.taken)
 
+-- what a frame made, where the number rule has no part in it
+abbrev pub passed_over : Taken
+passed_over = record { counts = no_counts; acknowledged = 0; taken = false; passed = true }
+
+abbrev pub heeded_with : Counts → Taken
+heeded_with c = record { counts = c; acknowledged = 0; taken = false; passed = false }
+
+-- what a frame made by the number rule, with the frames that were put
+abbrev pub heard_with : Answer → Counts → Taken
+heard_with h c = record { counts = c; acknowledged = h.acknowledged; taken = h.taken; passed = false }
+
 -- a send that is granted answers the N(S) of its block
+abbrev pub accepted : Result Number StationRefusal → Result ℕ StationRefusal
+accepted (Err e) = Err e
+accepted (Ok n) = Ok n.value
+
 abbrev pub accept_by : Option StationRefusal → Station → Result ℕ StationRefusal
 accept_by (Some e) x = Err e
 accept_by None x = Ok x.vs
@@ -46,10 +63,14 @@ abbrev pub fetch_writes : Result Block StationRefusal → List ℕ → List ℕ
 fetch_writes (Err e) place = place
 fetch_writes (Ok z) place = z ++ drop (length z) place
 
+-- at most n frames put, and at most n lost
+pub record AtMost (n : ℕ) (c : Counts) : Type 0 where
+  pub put : c.put ≤ n
+  pub lost : c.lost ≤ n
+
 -- a frame is answered by at most 8: a final and 7 blocks
-pub record FewFrames (c : Counts) : Type 0 where
-  pub put : c.put ≤ 8
-  pub lost : c.lost ≤ 8
+abbrev pub FewFrames : Counts → Type 0
+FewFrames = AtMost 8
 
 abbrev pub FewTaken : Result Taken StationRefusal → Type 0
 FewTaken (Ok a) = FewFrames a.counts

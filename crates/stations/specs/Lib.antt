@@ -1,6 +1,7 @@
 pub mod Refusals
 pub mod Station
 pub mod Blocks
+pub mod Counts
 pub mod Puts
 pub mod Rule
 pub mod Secondary

@@ -140,6 +140,14 @@ primary_closes k Open None x out = Ok (ask k Closing (Some 0) x (plain Disc) out
 primary_closes k Open (Some n) x out = Err refused.Polling
 primary_closes k Closing t x out = Err refused.Mode
 
+-- open with no poll outstanding: what close and poll look for
+abbrev pub idle_check : Mode → Timer → Result (Unit {0}) StationRefusal
+idle_check Closed t = Err refused.Mode
+idle_check Opening t = Err refused.Mode
+idle_check Open None = Ok tt
+idle_check Open (Some n) = Err refused.Polling
+idle_check Closing t = Err refused.Mode
+
 -- poll: the primary is open with no poll outstanding; it puts its own status with B 1, timer 0
 abbrev pub primary_polls : ℕ → Mode → Timer → Station → List Entry → Result Move StationRefusal
 primary_polls k Closed t x out = Err refused.Mode

@@ -1,10 +1,11 @@
 -- What a station puts on its outgoing way; a frame that finds no room is lost.
-use Rattle.std.specs.Prelude.{ℕ, zero, suc, ◌+◌, ◌-◌, ◌%◌, Bool, true, false, List, [], ◌∷◌, ◌++◌, length, Some, None, Option, nat_lt}
+use Rattle.std.specs.Prelude.{ℕ, zero, suc, ◌+◌, ◌-◌, ◌%◌, Bool, true, false, List, [], ◌∷◌, ◌++◌, length, Some, None, Ok, Err, Option, Result, nat_lt}
 use Rattle.frames.specs.declared.kind.Kind.{Kind}
 use Rattle.frames.specs.declared.kind.Kind.TheVariants.{I}
 use Rattle.frames.specs.Parts.{Parts, parts}
 use Rattle.lines.specs.Entries.{Entry, frame}
 use Rattle.stations.specs.declared.answer.Counts.{Counts}
+use Rattle.stations.specs.declared.refusal.StationRefusal.{StationRefusal}
 use Rattle.stations.specs.Station.{Block, Station, own_status}
 
 -- a way that can hold k entries, after one more frame
@@ -26,11 +27,6 @@ status x = parts (own_status x) 0 x.vr 1 []
 -- a block as an I frame: B is 0, N(R) is V(R)
 abbrev pub inform : Station → ℕ → Block → Parts
 inform x ns z = parts I ns x.vr 0 z
-
--- the block at a place, if there is one
-abbrev pub put_at : ℕ → Station → ℕ → Option Block → List Entry → List Entry
-put_at k x ns None es = es
-put_at k x ns (Some z) es = put k es (inform x ns z)
 
 -- sending again: every outstanding block, oldest first, under its old N(S)
 abbrev pub again_from : ℕ → Station → ℕ → List Block → List Entry → List Entry
@@ -62,3 +58,12 @@ abbrev pub counts : ℕ → List Entry → List Entry → Counts
 counts zero before after = no_counts
 counts (suc n) before after =
     record { put = length after - length before; lost = suc n - (length after - length before) }
+
+-- a send, by its refusal: the way then, and what is answered
+abbrev pub sent_entries : Option StationRefusal → ℕ → Station → Block → List Entry → List Entry
+sent_entries (Some e) k x z es = es
+sent_entries None k x z es = put k es (inform x x.vs z)
+
+abbrev pub sent_counts : Option StationRefusal → List Entry → List Entry → Result Counts StationRefusal
+sent_counts (Some e) before after = Err e
+sent_counts None before after = Ok (counts 1 before after)

@@ -1,5 +1,5 @@
 -- What the code's stations hold.
-use Rattle.std.specs.Prelude.{Bool, true, false}
+use Rattle.std.specs.Prelude.{Bool, true, false, Some}
 use Rattle.stations.specs.declared.station.FarStatus.{FarStatus}
 use Rattle.stations.specs.declared.station.FarStatus.TheVariants.{Ready, Busy}
 use Rattle.stations.specs.declared.station.Station.{Station as Code}
@@ -9,7 +9,7 @@ use Rattle.stations.specs.declared.secondary.Secondary.{Secondary}
 use Rattle.stations.specs.declared.secondary.SecondaryMode.{SecondaryMode}
 use Rattle.stations.specs.declared.secondary.SecondaryMode.TheVariants as secondary
 use Rattle.stations.specs.Primary.{Timer}
-use Rattle.stations.specs.Blocks.{in_window, in_queue}
+use Rattle.stations.specs.Blocks.{in_row}
 use Rattle.stations.specs.Station.{Station, fetch_leaves}
 
 abbrev pub is_busy : FarStatus → Bool
@@ -18,7 +18,7 @@ is_busy Busy = true
 
 abbrev pub station_of : Code → Station
 station_of c =
-    record { vs = c.vs; va = c.va; vr = c.vr; window = in_window c.window; busy = is_busy c.far; waiting = in_queue c.queue }
+    record { vs = c.vs.value; va = c.va.value; vr = c.vr.value; window = in_row c.window; busy = is_busy c.far; waiting = in_row c.queue }
 
 -- the primary: its mode, its timer and its station
 pub record PrimaryView : Type 0 where
@@ -28,6 +28,10 @@ pub record PrimaryView : Type 0 where
 
 abbrev pub primary_of : Primary → PrimaryView
 primary_of c = record { mode = c.mode; timer = c.timer; station = station_of c.station }
+
+-- after it asked: the timer is 0
+abbrev pub asked_primary : PrimaryView → PrimaryView
+asked_primary v = record { mode = v.mode; timer = Some 0; station = v.station }
 
 -- after a fetch
 abbrev pub fetched_primary : PrimaryView → PrimaryView

@@ -3,20 +3,18 @@
 
 mod answer;
 mod mode;
+mod number;
 mod primary;
 mod puts;
-mod queue;
 mod refusal;
-mod rows;
+mod row;
 mod secondary;
 mod station;
-mod window;
 
 pub use answer::{Counts, Heard, Taken};
 pub use mode::Mode;
 pub use primary::Primary;
-pub use queue::Queue;
 pub use refusal::StationRefusal;
+pub use row::{Queue, Row, Window};
 pub use secondary::{Secondary, SecondaryMode};
 pub use station::{FarStatus, Station};
-pub use window::Window;

@@ -1,6 +1,9 @@
 // Why a station refuses a call or a frame.
-ghost use Rattle.std.specs.Prelude.{◌≡◌};
+ghost use Rattle.std.specs.Prelude.{◌≡◌, Some};
 ghost use Rattle.stations.specs.Refusals.{number_of, word_of};
+
+use std::error::Error;
+use std::fmt;
 
 #[derive(Clone, Copy, PartialEq, Eq, Debug)]
 pub enum StationRefusal {
@@ -36,3 +39,14 @@ impl StationRefusal {
         }
     }
 }
+
+// A refusal is shown by its word.
+impl fmt::Display for StationRefusal {
+    ghost output = { λ r. Some (word_of r) };
+
+    fn fmt<W: fmt::Write>(&self, f: &mut fmt::Formatter<W>) -> fmt::Result {
+        f.write_str(self.word())
+    }
+}
+
+impl Error for StationRefusal {}

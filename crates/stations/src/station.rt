@@ -1,11 +1,12 @@
 // What either end keeps: the numbers, the window, the far status and the receive queue.
-ghost use Rattle.std.specs.Prelude.{◌≡◌, ◌+◌, ◌-◌, ◌%◌, ◌≤◌, length};
-ghost use Rattle.stations.specs.Blocks.{in_window};
+ghost use Rattle.std.specs.Prelude.{◌≡◌, ◌+◌, ◌-◌, ◌%◌, length};
+ghost use Rattle.stations.specs.Blocks.{in_row};
 
+use crate::number::Number;
 use crate::{Queue, Window};
 
-mod again;
 mod calls;
+mod puts;
 
 // The status that the other end told last: RR or RNR.
 #[derive(Clone, Copy, PartialEq, Eq, Debug)]
@@ -14,16 +15,14 @@ pub enum FarStatus {
     Busy,
 }
 
+// No `impl Model`, for the reason at `Row`, which it holds twice.
 #[derive(Clone, Copy)]
 pub struct Station {
-    vs: u8,
-    va: u8,
-    vr: u8,
+    vs: Number,
+    va: Number,
+    vr: Number,
     far: FarStatus,
     window: Window,
     queue: Queue,
-    ghost vs_small: { vs ≤ 7 },
-    ghost va_small: { va ≤ 7 },
-    ghost vr_small: { vr ≤ 7 },
-    ghost outstanding: { length (in_window window) ≡ (vs + (8 - va)) % 8 },
+    ghost outstanding: { length (in_row window) ≡ (vs.value + (8 - va.value)) % 8 },
 }

@@ -32,6 +32,7 @@ impl Block {
     }
 
     // Holds these octets from now on, if there are at most 64; otherwise answers no and stays as it was.
+    // (A Result would be no plainer: there is one reason for no, and nothing beside a yes.)
     pub fn write(&mut self, octets: &[u8]) -> bool
         ensures answers { result ≡ nat_le (length octets.now) 64 }
         ensures leaves { octets_in self.new ≡ (if result then octets.now else octets_in self.old) }

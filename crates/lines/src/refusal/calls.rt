@@ -1,15 +1,27 @@
-ghost use Rattle.std.specs.Prelude.{◌≡◌};
+ghost use Rattle.std.specs.Prelude.{◌≡◌, Some};
 ghost use Rattle.lines.specs.Refusals.{number_of, word_of};
-ghost use Rattle.lines.specs.declared.refusal.LineRefusal.TheVariants.{Frame};
+ghost use Rattle.lines.specs.declared.refusal.LineRefusal.TheVariants.{Frame, Full};
 
 use super::LineRefusal;
+use crate::RingFull;
 use frames::FrameRefusal;
+use std::error::Error;
+use std::fmt;
 
 impl From<FrameRefusal> for LineRefusal {
     ghost from_gives = { λ e r. r ≡ Frame e };
 
     fn from(refusal: FrameRefusal) -> LineRefusal {
         LineRefusal::Frame(refusal)
+    }
+}
+
+// A way that holds as many entries as it can is full.
+impl From<RingFull> for LineRefusal {
+    ghost from_gives = { λ e r. r ≡ Full };
+
+    fn from(_full: RingFull) -> LineRefusal {
+        LineRefusal::Full
     }
 }
 
@@ -48,3 +60,14 @@ impl LineRefusal {
         }
     }
 }
+
+// A refusal is shown by its word.
+impl fmt::Display for LineRefusal {
+    ghost output = { λ r. Some (word_of r) };
+
+    fn fmt<W: fmt::Write>(&self, f: &mut fmt::Formatter<W>) -> fmt::Result {
+        f.write_str(self.word())
+    }
+}
+
+impl Error for LineRefusal {}

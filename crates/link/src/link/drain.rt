@@ -1,18 +1,16 @@
 // Draining a link: takes, ticks and polls until nothing is on its way.
-ghost use Rattle.std.specs.Prelude.{◌≡◌, ◌≤◌, [], ◌∷◌, replicate};
-ghost use Rattle.link.specs.Drain.{drain_parts, drain_answer, drain_calls, drained, walk, part_calls, counts_by, frames_of, more, counted_call, counted_all, settled_at};
-ghost use Rattle.link.specs.History.{polls, ticks, takes, step, run};
-ghost use Rattle.stations.specs.Answers.{FewFrames};
+ghost use Rattle.std.specs.Prelude.{◌≡◌, ◌+◌, ◌*◌, ◌≤◌, replicate};
+ghost use Rattle.link.specs.Drain.{drain_parts, drain_answer, drain_calls, drained, walk, part_calls, counted_all, settled_at, total};
+ghost use Rattle.link.specs.History.{run};
 ghost use Rattle.link.specs.DrainFacts.{WorkedDrain};
-ghost use Rattle.link.specs.Sizes.{Few, Grown};
+ghost use Rattle.link.specs.Plays.{meant};
 ghost use Rattle.link.specs.Views.{model};
 
 use super::Link;
 use crate::part::Part;
-use crate::{Drained, End, LinkRefusal};
-use frames::Way;
+use crate::{Call, Drained, End, LinkRefusal};
 use lines::Line;
-use stations::{Counts, Mode, StationRefusal};
+use stations::{Mode, StationRefusal};
 
 // Pass at primary, secondary, primary, secondary; ask; pass at secondary, primary, secondary; poll; pass at secondary,
 // primary, secondary.
@@ -24,121 +22,34 @@ fn drain_parts() -> [Part; 12]
     [p, s, p, s, Part::Ask, s, p, s, Part::Poll, s, p, s]
 }
 
-// The frames of a call that puts some; none where it is refused.
-fn frames(answer: Result<Counts, LinkRefusal>) -> Counts
-    ensures { result ≡ counts_by answer }
-{
-    match answer {
-        Ok(counts) => counts,
-        Err(_) => Counts { put: 0, lost: 0 },
-    }
-}
-
-// So many ticks and takes more, and these frames. The limits that are required here and below are far above what twelve
-// parts can count: a part has at most 10,000 calls, and a call at most 8 frames.
-fn note(done: &mut Drained, ticks: usize, takes: usize, counts: Counts)
-    requires few { Few 100000000 done.old }
-    requires one { (ticks ≤ 1) × (takes ≤ 1) }
-    requires frames { FewFrames counts }
-    ensures counts { done.new ≡ more ticks takes counts done.old }
-{
-    done.counts.put += counts.put;
-    done.counts.lost += counts.lost;
-    done.ticks += ticks;
-    done.takes += takes;
-}
-
 impl<L: Line> Link<L> {
-    // A take, which counts whatever it answers.
-    fn take_counted(&mut self, end: End, done: &mut Drained)
-        requires { Few 99999000 done.old }
-        ensures leaves { model L.Line.meaning self.new ≡ step (model L.Line.meaning self.old) (takes end) }
-        ensures counts { done.new ≡ counted_call (takes end) (frames_of (takes end) (model L.Line.meaning self.old)) done.old }
-        ensures few { Grown 8 done.old done.new }
-        ensures keeps { L.Line.beyond self.new.line ≡ L.Line.beyond self.old.line }
-        ensures tidy { L.Line.tidy self.old.line → L.Line.tidy self.new.line }
-    {
-        match self.take(end) {
-            Ok(taken) => note(done, 0, 1, taken.counts),
-            Err(_) => note(done, 0, 1, Counts { put: 0, lost: 0 }),
-        }
-    }
-
-    // Takes at an end, once for each entry of its incoming way: nothing that it puts comes there.
-    fn pass(&mut self, end: End, done: &mut Drained)
-        requires { Few 90000000 done.old }
-        ensures leaves { model L.Line.meaning self.new ≡ run (model L.Line.meaning self.old) (part_calls (Part.Pass end) (model L.Line.meaning self.old)) }
-        ensures counts { done.new ≡ counted_all (model L.Line.meaning self.old) (part_calls (Part.Pass end) (model L.Line.meaning self.old)) done.old }
-        ensures few { Grown 1000000 done.old done.new }
-        ensures keeps { L.Line.beyond self.new.line ≡ L.Line.beyond self.old.line }
-        ensures tidy { L.Line.tidy self.old.line → L.Line.tidy self.new.line }
-    {
-        let entries = match end {
-            End::Primary => self.line.count(Way::Two),
-            End::Secondary => self.line.count(Way::One),
-        };
-        for i in 0..entries {
-            self.take_counted(end, done);
-        }
-    }
-
-    // A tick.
-    fn tick_counted(&mut self, done: &mut Drained)
-        requires { Few 99999000 done.old }
-        ensures leaves { model L.Line.meaning self.new ≡ step (model L.Line.meaning self.old) ticks }
-        ensures counts { done.new ≡ counted_call ticks (frames_of ticks (model L.Line.meaning self.old)) done.old }
-        ensures few { Grown 8 done.old done.new }
-        ensures keeps { L.Line.beyond self.new.line ≡ L.Line.beyond self.old.line }
-        ensures tidy { L.Line.tidy self.old.line → L.Line.tidy self.new.line }
-    {
-        let counts = frames(self.tick());
-        note(done, 1, 0, counts);
-    }
-
-    // So many ticks.
-    fn wait(&mut self, n: usize, done: &mut Drained)
-        requires few { Few 90000000 done.old }
-        requires short { n ≤ 10000 }
-        ensures leaves { model L.Line.meaning self.new ≡ run (model L.Line.meaning self.old) (replicate n ticks) }
-        ensures counts { done.new ≡ counted_all (model L.Line.meaning self.old) (replicate n ticks) done.old }
-        ensures few { Grown 1000000 done.old done.new }
-        ensures keeps { L.Line.beyond self.new.line ≡ L.Line.beyond self.old.line }
-        ensures tidy { L.Line.tidy self.old.line → L.Line.tidy self.new.line }
-    {
-        for i in 0..n {
-            self.tick_counted(done);
-        }
-    }
-
-    // A poll.
-    fn poll_counted(&mut self, done: &mut Drained)
-        requires { Few 90000000 done.old }
-        ensures leaves { model L.Line.meaning self.new ≡ run (model L.Line.meaning self.old) (polls ∷ []) }
-        ensures counts { done.new ≡ counted_all (model L.Line.meaning self.old) (polls ∷ []) done.old }
-        ensures few { Grown 1000000 done.old done.new }
-        ensures keeps { L.Line.beyond self.new.line ≡ L.Line.beyond self.old.line }
-        ensures tidy { L.Line.tidy self.old.line → L.Line.tidy self.new.line }
-    {
-        let counts = frames(self.poll());
-        note(done, 0, 0, counts);
-    }
-
-    // One part of a drain.
-    fn walk(&mut self, part: Part, done: &mut Drained)
-        requires { Few 90000000 done.old }
-        ensures leaves { model L.Line.meaning self.new ≡ run (model L.Line.meaning self.old) (part_calls part (model L.Line.meaning self.old)) }
-        ensures counts { done.new ≡ counted_all (model L.Line.meaning self.old) (part_calls part (model L.Line.meaning self.old)) done.old }
-        ensures few { Grown 1000000 done.old done.new }
-        ensures keeps { L.Line.beyond self.new.line ≡ L.Line.beyond self.old.line }
-        ensures tidy { L.Line.tidy self.old.line → L.Line.tidy self.new.line }
+    // The call that a part of a drain makes, and how often. A pass takes once for each entry of the incoming way: nothing
+    // that it puts comes there.
+    fn calls_of(&self, part: Part) -> (usize, Call)
+        ensures calls { replicate result.0 (meant result.1) ≡ part_calls part (model L.Line.meaning self.now) }
+        ensures few { result.0 ≤ 10000 }
     {
         match part {
-            Part::Pass(end) => self.pass(end, done),
+            Part::Pass(end) => (self.line.count(end.incoming()), Call::Take(end)),
             Part::Ask => match self.primary.timer() {
-                Some(n) => self.wait(self.limit.min(10000).saturating_sub(n), done),
-                None => self.poll_counted(done),
+                Some(n) => (self.limit.min(10000).saturating_sub(n), Call::Tick),
+                None => (1, Call::Poll),
             },
-            Part::Poll => self.poll_counted(done),
+            Part::Poll => (1, Call::Poll),
+        }
+    }
+
+    // A call again and again. Each counts at most 8 frames put, 8 lost, and one tick or take.
+    fn repeat(&mut self, n: usize, call: Call, done: &mut Drained)
+        requires room { total done.old + 17 * n ≤ 1000000000 }
+        ensures leaves { model L.Line.meaning self.new ≡ run (model L.Line.meaning self.old) (replicate n (meant call)) }
+        ensures counts { done.new ≡ counted_all (model L.Line.meaning self.old) (replicate n (meant call)) done.old }
+        ensures few { total done.new ≤ total done.old + 17 * n }
+        ensures keeps { L.Line.beyond self.new.line ≡ L.Line.beyond self.old.line }
+    {
+        for _i in 0..n {
+            let answer = self.obey(call);
+            done.note(call, answer);
         }
     }
 
@@ -154,17 +65,12 @@ impl<L: Line> Link<L> {
         ensures answers { result ≡ drained (model L.Line.meaning self.old) (walk drain_parts (model L.Line.meaning self.old)) }
         ensures leaves { model L.Line.meaning self.new ≡ run (model L.Line.meaning self.old) (walk drain_parts (model L.Line.meaning self.old)) }
         ensures keeps { L.Line.beyond self.new.line ≡ L.Line.beyond self.old.line }
-        ensures tidy { L.Line.tidy self.old.line → L.Line.tidy self.new.line }
     {
-        let mut done = Drained {
-            counts: Counts { put: 0, lost: 0 },
-            ticks: 0,
-            takes: 0,
-            settled: false,
-        };
+        let mut done = Drained::default();
         let parts = drain_parts();
         for part in &parts {
-            self.walk(*part, &mut done);
+            let (n, call) = self.calls_of(*part);
+            self.repeat(n, call, &mut done);
         }
         done.settled = self.settled();
         done
@@ -177,12 +83,11 @@ impl<L: Line> Link<L> {
         ensures worked { WorkedDrain }
         ensures leaves { model L.Line.meaning self.new ≡ run (model L.Line.meaning self.old) (drain_calls (model L.Line.meaning self.old)) }
         ensures keeps { L.Line.beyond self.new.line ≡ L.Line.beyond self.old.line }
-        ensures tidy { L.Line.tidy self.old.line → L.Line.tidy self.new.line }
     {
-        self.sound()?;
-        match self.primary.mode() {
-            Mode::Open => Ok(self.drain_open()),
-            _ => Err(LinkRefusal::Station(StationRefusal::Mode)),
+        self.checked?;
+        if self.primary.mode() != Mode::Open {
+            return Err(StationRefusal::Mode.into());
         }
+        Ok(self.drain_open())
     }
 }

@@ -1,5 +1,7 @@
 // Lists of calls, and the promise over every history.
 ghost use Rattle.std.specs.Prelude.{◌≡◌, map};
+ghost use Rattle.stations.specs.Answers.{FewFrames};
+ghost use Rattle.link.specs.Drain.{counts_by, frames_of};
 ghost use Rattle.link.specs.Facts.{WorkedHistories};
 ghost use Rattle.link.specs.History.{run, step};
 ghost use Rattle.link.specs.Plays.{meant};
@@ -7,42 +9,27 @@ ghost use Rattle.link.specs.Promise.{Lasting};
 ghost use Rattle.link.specs.Views.{model};
 
 use super::Link;
-use crate::Call;
+use crate::{Call, LinkRefusal};
 use lines::Line;
+use stations::Counts;
 
 impl<L: Line> Link<L> {
-    // One call; its answer is let go.
-    fn obey(&mut self, call: Call)
+    // One call, and of its answer the refusal or the frames.
+    pub(super) fn obey(&mut self, call: Call) -> Result<Counts, LinkRefusal>
+        ensures frames { counts_by result ≡ frames_of (meant call) (model L.Line.meaning self.old) }
+        ensures few { FewFrames (counts_by result) }
         ensures leaves { model L.Line.meaning self.new ≡ step (model L.Line.meaning self.old) (meant call) }
         ensures keeps { L.Line.beyond self.new.line ≡ L.Line.beyond self.old.line }
-        ensures tidy { L.Line.tidy self.old.line → L.Line.tidy self.new.line }
     {
         match call {
-            Call::Open => {
-                let _ = self.open();
-            }
-            Call::Close => {
-                let _ = self.close();
-            }
-            Call::Poll => {
-                let _ = self.poll();
-            }
-            Call::Tick => {
-                let _ = self.tick();
-            }
-            Call::Send(end, block) => {
-                let _ = self.send(end, block.octets());
-            }
-            Call::Take(end) => {
-                let _ = self.take(end);
-            }
-            Call::Fetch(end) => {
-                let mut place = [0; 64];
-                let _ = self.fetch(end, &mut place);
-            }
-            Call::Strike(way, place, start, mask) => {
-                let _ = self.strike(way, place, start, mask);
-            }
+            Call::Open => self.open(),
+            Call::Close => self.close(),
+            Call::Poll => self.poll(),
+            Call::Tick => self.tick(),
+            Call::Send(end, block) => self.send(end, block.octets()),
+            Call::Take(end) => Ok(self.take(end)?.counts),
+            Call::Fetch(end) => Ok(self.fetch(end, &mut [0; 64])?.counts),
+            Call::Strike(way, place, burst) => self.strike(way, place, burst),
         }
     }
 
@@ -53,10 +40,9 @@ impl<L: Line> Link<L> {
         ensures law { Lasting (model L.Line.meaning self.old) (map meant calls.now) (model L.Line.meaning self.new) }
         ensures worked { WorkedHistories }
         ensures keeps { L.Line.beyond self.new.line ≡ L.Line.beyond self.old.line }
-        ensures tidy { L.Line.tidy self.old.line → L.Line.tidy self.new.line }
     {
         for call in calls {
-            self.obey(*call);
+            let _ = self.obey(*call);
         }
     }
 }

@@ -1,10 +1,12 @@
-ghost use Rattle.std.specs.Prelude.{◌≡◌};
+ghost use Rattle.std.specs.Prelude.{◌≡◌, Some};
 ghost use Rattle.link.specs.Refusals.{number_of, word_of};
 ghost use Rattle.link.specs.declared.refusal.LinkRefusal.TheVariants.{Line as ByLine, Station as ByStation};
 
 use super::LinkRefusal;
 use lines::LineRefusal;
 use stations::StationRefusal;
+use std::error::Error;
+use std::fmt;
 
 impl From<LineRefusal> for LinkRefusal {
     ghost from_gives = { λ e r. r ≡ ByLine e };
@@ -47,3 +49,14 @@ impl LinkRefusal {
         }
     }
 }
+
+// A refusal is shown by its word.
+impl fmt::Display for LinkRefusal {
+    ghost output = { λ r. Some (word_of r) };
+
+    fn fmt<W: fmt::Write>(&self, f: &mut fmt::Formatter<W>) -> fmt::Result {
+        f.write_str(self.word())
+    }
+}
+
+impl Error for LinkRefusal {}

@@ -11,7 +11,7 @@ ghost use Rattle.stations.specs.Calls.{replies, returns, secondary_after, two_af
 use super::{Secondary, SecondaryMode};
 use crate::puts::deliver;
 use crate::{Counts, FarStatus, Station, StationRefusal, Taken};
-use frames::{FrameBuf, Kind, Way};
+use frames::{FrameBuf, Kind, Parts, Way};
 use lines::Line;
 
 impl Secondary {
@@ -51,22 +51,11 @@ impl Secondary {
         ensures leaves { secondary_of self.new ≡ secondary_after (returns (secondary_of self.old) octets.now (L.Line.meaning line.old)) (secondary_of self.old) }
         ensures puts { L.Line.meaning line.new ≡ two_after (returns (secondary_of self.old) octets.now (L.Line.meaning line.old)) (L.Line.meaning line.old) }
         ensures keeps { L.Line.beyond line.new ≡ L.Line.beyond line.old }
-        ensures tidy { L.Line.tidy line.old → L.Line.tidy line.new }
     {
-        let opened = match self.mode {
-            SecondaryMode::Open => true,
-            SecondaryMode::Closed => false,
-        };
-        let ns = self.station.accept(opened, octets)?;
-        Ok(deliver(
-            line,
-            Way::Two,
-            Kind::I,
-            ns,
-            self.station.expected(),
-            0,
-            octets,
-        ))
+        if self.mode != SecondaryMode::Open {
+            return Err(StationRefusal::Mode);
+        }
+        self.station.send(octets, line, Way::Two)
     }
 
     // The oldest waiting block leaves, in any mode, and is written to the front of the place.
@@ -84,51 +73,29 @@ impl Secondary {
         ensures few { FewFrames result }
         ensures puts { L.Line.meaning line.new ≡ with_way Two (again (L.Line.meaning line.old).capacity (secondary_of self.now).station (put (L.Line.meaning line.old).capacity (L.Line.meaning line.old).two (status (secondary_of self.now).station))) (L.Line.meaning line.old) }
         ensures keeps { L.Line.beyond line.new ≡ L.Line.beyond line.old }
-        ensures tidy { L.Line.tidy line.old → L.Line.tidy line.new }
     {
-        let status = deliver(
-            line,
-            Way::Two,
-            self.station.own_status(),
-            0,
-            self.station.expected(),
-            1,
-            &[],
-        );
-        let blocks = self.station.again(line, Way::Two);
-        Counts {
-            put: status.put + blocks.put,
-            lost: status.lost + blocks.lost,
-        }
+        deliver(line, Way::Two, self.station.status()) + self.station.again(line, Way::Two)
     }
 
-    // RR or RNR when open: the number rule, and the answer to a poll.
+    // RR or RNR when open: the number rule, and the answer to a poll. (What it shares with the primary's is
+    // `Station::hear_status`; a poll and a final are answered by rules of their own.)
     fn hear_status<L: Line>(
         &mut self,
         far: FarStatus,
-        nr: u8,
-        b: u8,
+        frame: &FrameBuf,
         line: &mut L,
     ) -> Result<Taken, StationRefusal>
-        ensures answers { result ≡ reply_answer (status_replies (secondary_of self.old) (is_busy far) nr b (L.Line.meaning line.old)) (L.Line.meaning line.old) }
+        ensures answers { result ≡ reply_answer (status_replies (secondary_of self.old) (is_busy far) frame.now.nr frame.now.b (L.Line.meaning line.old)) (L.Line.meaning line.old) }
         ensures few { FewTaken result }
-        ensures leaves { secondary_of self.new ≡ status_reply self.old.mode (status_replies (secondary_of self.old) (is_busy far) nr b (L.Line.meaning line.old)) }
-        ensures puts { L.Line.meaning line.new ≡ two_after (Ok (status_replies (secondary_of self.old) (is_busy far) nr b (L.Line.meaning line.old))) (L.Line.meaning line.old) }
+        ensures leaves { secondary_of self.new ≡ status_reply self.old.mode (status_replies (secondary_of self.old) (is_busy far) frame.now.nr frame.now.b (L.Line.meaning line.old)) }
+        ensures puts { L.Line.meaning line.new ≡ two_after (Ok (status_replies (secondary_of self.old) (is_busy far) frame.now.nr frame.now.b (L.Line.meaning line.old))) (L.Line.meaning line.old) }
         ensures keeps { L.Line.beyond line.new ≡ L.Line.beyond line.old }
-        ensures tidy { L.Line.tidy line.old → L.Line.tidy line.new }
     {
-        let heard = self.station.hear_status(far, nr)?;
-        let counts = if b == 1 {
-            self.answer_poll(line)
-        } else {
-            Counts { put: 0, lost: 0 }
-        };
-        Ok(Taken {
-            counts,
-            acknowledged: heard.acknowledged,
-            taken: heard.taken,
-            passed: false,
-        })
+        let heard = self.station.hear_status(far, frame.nr)?;
+        if frame.b == 1 {
+            return Ok(heard.with(self.answer_poll(line)));
+        }
+        Ok(heard.with(Counts::default()))
     }
 
     // What it does on a frame, by its mode and the frame's kind.
@@ -138,70 +105,27 @@ impl Secondary {
         ensures leaves { secondary_of self.new ≡ secondary_after (Ok (replies (secondary_of self.old) (parts_in frame) (L.Line.meaning line.old))) (secondary_of self.old) }
         ensures puts { L.Line.meaning line.new ≡ two_after (Ok (replies (secondary_of self.old) (parts_in frame) (L.Line.meaning line.old))) (L.Line.meaning line.old) }
         ensures keeps { L.Line.beyond line.new ≡ L.Line.beyond line.old }
-        ensures tidy { L.Line.tidy line.old → L.Line.tidy line.new }
     {
         match (self.mode, frame.kind) {
             (_, Kind::Sarm) => {
                 self.station.reset();
                 self.mode = SecondaryMode::Open;
-                let counts = deliver(line, Way::Two, Kind::Ua, 0, 0, 0, &[]);
-                Ok(Taken {
-                    counts,
-                    acknowledged: 0,
-                    taken: false,
-                    passed: false,
-                })
+                Ok(Taken::heeded(deliver(line, Way::Two, Parts::plain(Kind::Ua))))
             }
             (SecondaryMode::Open, Kind::Disc) => {
                 self.mode = SecondaryMode::Closed;
-                let counts = deliver(line, Way::Two, Kind::Ua, 0, 0, 0, &[]);
-                Ok(Taken {
-                    counts,
-                    acknowledged: 0,
-                    taken: false,
-                    passed: false,
-                })
+                Ok(Taken::heeded(deliver(line, Way::Two, Parts::plain(Kind::Ua))))
             }
             (SecondaryMode::Closed, Kind::Disc) => {
-                let counts = deliver(line, Way::Two, Kind::Dm, 0, 0, 0, &[]);
-                Ok(Taken {
-                    counts,
-                    acknowledged: 0,
-                    taken: false,
-                    passed: false,
-                })
+                Ok(Taken::heeded(deliver(line, Way::Two, Parts::plain(Kind::Dm))))
             }
             (SecondaryMode::Open, Kind::I) => {
-                let heard = self.station.hear_block(frame.ns, frame.nr, frame.block)?;
-                let counts = Counts { put: 0, lost: 0 };
-                Ok(Taken {
-                    counts,
-                    acknowledged: heard.acknowledged,
-                    taken: heard.taken,
-                    passed: false,
-                })
+                let heard = self.station.hear_block(&frame)?;
+                Ok(heard.with(Counts::default()))
             }
-            (SecondaryMode::Open, Kind::Rr) => self.hear_status(
-                FarStatus::Ready,
-                frame.nr,
-                frame.b,
-                line,
-            ),
-            (SecondaryMode::Open, Kind::Rnr) => self.hear_status(
-                FarStatus::Busy,
-                frame.nr,
-                frame.b,
-                line,
-            ),
-            _ => {
-                let counts = Counts { put: 0, lost: 0 };
-                Ok(Taken {
-                    counts,
-                    acknowledged: 0,
-                    taken: false,
-                    passed: true,
-                })
-            }
+            (SecondaryMode::Open, Kind::Rr) => self.hear_status(FarStatus::Ready, &frame, line),
+            (SecondaryMode::Open, Kind::Rnr) => self.hear_status(FarStatus::Busy, &frame, line),
+            _ => Ok(Taken::passed()),
         }
     }
 }

@@ -1,13 +1,14 @@
-ghost use Rattle.std.specs.Prelude.{◌≡◌, ◌≤◌, length, IfOk};
+ghost use Rattle.std.specs.Prelude.{◌≡◌, true, length};
 ghost use Rattle.frames.specs.Blocks.{octets_in};
 ghost use Rattle.stations.specs.Station.{fresh, reset, outstanding, own_status, send_check, fetch_answer, fetch_leaves};
 ghost use Rattle.stations.specs.Rule.{hear_i, hear_s};
-ghost use Rattle.stations.specs.Answers.{passing, after_number, rule_answer, accept_by, accept_leaves, fetch_length, fetch_writes};
+ghost use Rattle.stations.specs.Answers.{passing, after_number, rule_answer, accepted, accept_by, accept_leaves, fetch_length, fetch_writes};
 ghost use Rattle.stations.specs.Views.{station_of, is_busy};
 
 use super::{FarStatus, Station};
+use crate::number::Number;
 use crate::{Heard, Queue, StationRefusal, Window};
-use frames::{Block, Kind};
+use frames::{FrameBuf, Kind};
 
 impl Station {
     // A station before anything has happened.
@@ -15,9 +16,9 @@ impl Station {
         ensures { station_of result ≡ fresh }
     {
         Station {
-            vs: 0,
-            va: 0,
-            vr: 0,
+            vs: Number::of(0),
+            va: Number::of(0),
+            vr: Number::of(0),
             far: FarStatus::Ready,
             window: Window::new(),
             queue: Queue::new(),
@@ -28,18 +29,16 @@ impl Station {
     pub(crate) fn reset(&mut self)
         ensures { station_of self.new ≡ reset (station_of self.old) }
     {
-        self.window = Window::new();
-        self.vs = 0;
-        self.va = 0;
-        self.vr = 0;
-        self.far = FarStatus::Ready;
+        let waiting = self.queue;
+        *self = Station::new();
+        self.queue = waiting;
     }
 
     // How many blocks are sent and not acknowledged.
     pub(crate) fn outstanding(&self) -> usize
         ensures { result ≡ outstanding (station_of self.now) }
     {
-        ((self.vs + (8 - self.va)) % 8) as usize
+        self.vs.since(self.va)
     }
 
     // How many blocks wait to be fetched.
@@ -53,58 +52,41 @@ impl Station {
     pub(crate) fn own_status(&self) -> Kind
         ensures { result ≡ own_status (station_of self.now) }
     {
-        if self.queue.len() == 7 {
+        if self.queue.is_full() {
             Kind::Rnr
         } else {
             Kind::Rr
         }
     }
 
-    // V(R): the N(S) that is expected next.
-    pub(crate) fn expected(&self) -> u8
-        ensures is { result ≡ (station_of self.now).vr }
-        ensures small { result ≤ 7 }
-    {
-        self.vr
-    }
-
     // The blocks that N(R) passes are acknowledged, unless they are more than are outstanding.
-    fn acknowledge(&mut self, nr: u8) -> Option<usize>
+    fn acknowledge(&mut self, nr: u8) -> Result<usize, StationRefusal>
         ensures answers { result ≡ passing (station_of self.old) nr }
         ensures leaves { station_of self.new ≡ after_number (station_of self.old) nr }
     {
-        let passed = (nr % 8 + (8 - self.va)) % 8;
-        if passed > (self.vs + (8 - self.va)) % 8 {
-            return None;
+        let nr = Number::of(nr);
+        let passed = nr.since(self.va);
+        if passed > self.outstanding() {
+            return Err(StationRefusal::Numbering);
         }
-        self.window.shed(passed as usize);
-        self.va = nr % 8;
-        Some(passed as usize)
+        self.window.shed(passed);
+        self.va = nr;
+        Ok(passed)
     }
 
     // An I frame: the number rule, and the block is taken in where its N(S) is V(R) and fewer than 7 wait.
-    pub(crate) fn hear_block(
-        &mut self,
-        ns: u8,
-        nr: u8,
-        block: Block,
-    ) -> Result<Heard, StationRefusal>
-        ensures answers { result ≡ rule_answer (hear_i (station_of self.old) ns nr (octets_in block)) }
-        ensures leaves { station_of self.new ≡ (hear_i (station_of self.old) ns nr (octets_in block)).station }
+    pub(crate) fn hear_block(&mut self, frame: &FrameBuf) -> Result<Heard, StationRefusal>
+        ensures answers { result ≡ rule_answer (hear_i (station_of self.old) frame.now.ns frame.now.nr (octets_in frame.now.block)) }
+        ensures leaves { station_of self.new ≡ (hear_i (station_of self.old) frame.now.ns frame.now.nr (octets_in frame.now.block)).station }
     {
-        let Some(acknowledged) = self.acknowledge(nr) else {
-            return Err(StationRefusal::Numbering);
-        };
-        if ns != self.vr || !self.queue.push(block) {
-            return Ok(Heard {
-                acknowledged,
-                taken: false,
-            });
+        let acknowledged = self.acknowledge(frame.nr)?;
+        let taken = frame.ns == self.vr.get() && self.queue.push(frame.block.octets());
+        if taken {
+            self.vr = self.vr.next();
         }
-        self.vr = (self.vr + 1) % 8;
         Ok(Heard {
             acknowledged,
-            taken: true,
+            taken,
         })
     }
 
@@ -113,9 +95,7 @@ impl Station {
         ensures answers { result ≡ rule_answer (hear_s (station_of self.old) (is_busy far) nr) }
         ensures leaves { station_of self.new ≡ (hear_s (station_of self.old) (is_busy far) nr).station }
     {
-        let Some(acknowledged) = self.acknowledge(nr) else {
-            return Err(StationRefusal::Numbering);
-        };
+        let acknowledged = self.acknowledge(nr)?;
         self.far = far;
         Ok(Heard {
             acknowledged,
@@ -123,31 +103,25 @@ impl Station {
         })
     }
 
-    // A block enters the window, unless the end is not open, the block is long, 7 are outstanding or the far end is
-    // busy. It answers the block's N(S).
-    pub(crate) fn accept(&mut self, opened: bool, octets: &[u8]) -> Result<u8, StationRefusal>
-        ensures answers { result ≡ accept_by (send_check opened (station_of self.old) octets.now) (station_of self.old) }
-        ensures leaves { station_of self.new ≡ accept_leaves (send_check opened (station_of self.old) octets.now) (station_of self.old) octets.now }
-        ensures small { IfOk result (λ ns. (ns ≤ 7) × (length octets.now ≤ 64)) }
+    // A block enters the window of an open end, unless it is long, 7 are outstanding or the far end is busy. It
+    // answers the block's N(S).
+    pub(super) fn accept(&mut self, octets: &[u8]) -> Result<Number, StationRefusal>
+        ensures answers { accepted result ≡ accept_by (send_check true (station_of self.old) octets.now) (station_of self.old) }
+        ensures leaves { station_of self.new ≡ accept_leaves (send_check true (station_of self.old) octets.now) (station_of self.old) octets.now }
     {
-        if !opened {
-            return Err(StationRefusal::Mode);
-        }
         if octets.len() > 64 {
             return Err(StationRefusal::LongBlock);
         }
         if self.outstanding() >= 7 {
             return Err(StationRefusal::Window);
         }
-        match self.far {
-            FarStatus::Busy => Err(StationRefusal::FarBusy),
-            FarStatus::Ready => {
-                let ns = self.vs;
-                let _fitted = self.window.push(octets);
-                self.vs = (ns + 1) % 8;
-                Ok(ns)
-            }
+        if self.far == FarStatus::Busy {
+            return Err(StationRefusal::FarBusy);
         }
+        let ns = self.vs;
+        let _fitted = self.window.push(octets);
+        self.vs = ns.next();
+        Ok(ns)
     }
 
     // The oldest waiting block leaves and is written to the front of the place; its length is the answer.
@@ -156,9 +130,7 @@ impl Station {
         ensures writes { place.new ≡ fetch_writes (fetch_answer (station_of self.old)) place.old }
         ensures leaves { station_of self.new ≡ fetch_leaves (station_of self.old) }
     {
-        let Some(block) = self.queue.pop() else {
-            return Err(StationRefusal::Nothing);
-        };
+        let block = self.queue.pop().ok_or(StationRefusal::Nothing)?;
         let n = block.len();
         place[0..n].copy_from_slice(block.octets());
         Ok(n)

@@ -1,6 +1,6 @@
 use Rattle.std.proofs.Common.{◌≡◌, ℕ, ◌+◌, ◌++◌, length, take, drop, Ok, sym, ap, ◌∙◌, arith}
 use Rattle.std.proofs.lemmas.List.{take_at}
-use Rattle.frames.specs.Parts.{parts}
+use Rattle.frames.specs.Parts.{given}
 use Rattle.frames.specs.Reader.{read_answer}
 use Rattle.frames.specs.Writer.{octets_of, admit_answer, octets_by, counted, laid}
 use Rattle.frames.proofs.RoundTrips.{written_read}
@@ -9,10 +9,10 @@ use Rattle.frames.proofs.writer.write.Goals as goal
 
 pub returns-then-out-len : goal.returns-then-out-len
 returns-then-out-len c =
-    let p = parts c.args.kind c.args.ns c.args.nr c.args.b c.args.info.now in
+    let p = given c.args.frame in
     let o = c.args.out.now in
     let e =
-    full (admit_answer c.args.way p) c.in_ok-control.control c.args.info.now (length o)
+    full (admit_answer c.args.way p) c.in_ok-control.control c.args.frame.info.now (length o)
     (sym c.in_ok-control.ensures) c.if-out-len.true in
     record {
       answers = sym (ap counted e);
@@ -23,8 +23,8 @@ returns-then-out-len c =
 pub returns : goal.returns
 returns c =
     let w = c.args.way in
-    let i = c.args.info.now in
-    let p = parts c.args.kind c.args.ns c.args.nr c.args.b i in
+    let i = c.args.frame.info.now in
+    let p = given c.args.frame in
     let o = c.args.out.now in
     let d = c.in_ok-control.control in
     let a = sym c.in_ok-control.ensures in

@@ -1,23 +1,7 @@
-use Rattle.std.proofs.Common.{◌≡◌, ◌≤◌, min, length, drop, sym, refl, ap, ◌∙◌, arith}
-use Rattle.std.proofs.lemmas.List.{drop-set-lt}
-use Rattle.std.proofs.lemmas.Bool.Decides.{nat_tests}
-use Rattle.lines.proofs.Lanes.{blank_more, lane_blank}
+use Rattle.std.proofs.Common.{arith}
+use Rattle.lines.proofs.Lanes.{lane_blank}
 use Rattle.lines.proofs.ring.Ring.make.Goals as goal
-use Rattle.lines.proofs.ring.Ring.make.Goals.{then-n-slots, else-n-slots}
 
-pub loop-i-preserved : goal.loop-i-preserved
-loop-i-preserved g c = (
-  blank_more c.loop-i.slots c.loop-i.i c.blank-blank.result (omega arith) c.loop-i.invariant.0,
-  drop-set-lt c.if-n-slots.cap _ c.loop-i.i _ (omega arith) ∙ c.loop-i.invariant.1,
-)
-
-pub returns : goal.returns
-returns g c =
-    let n : c.if-n-slots.cap ≤ length c.loop-i.slots = omega arith in
-    let m : min c.if-n-slots.cap (length c.loop-i.slots) ≡ c.if-n-slots.cap = omega arith in
-    record {
-      holds = refl;
-      slots = m ∙ elim c.if-n-slots.branch [ then-n-slots w ↦ grind (arith, nat_tests) | else-n-slots w ↦ grind (arith, nat_tests) ];
-      blank = lane_blank c.loop-i.slots c.if-n-slots.cap c.blank-blank.result _ (λ k h. c.loop-i.invariant.0 k (omega arith)) c.blank-blank.ensures;
-      rest = c.loop-i.invariant.1 ∙ sym (ap (λ k. drop k c.args.slots.now) m);
-    }
+pub returns-clause-blank : goal.returns-clause-blank
+returns-clause-blank g c =
+    lane_blank c.loop-i.slots c.if-n-slots.cap c.blank-blank.result _ (λ k h. c.loop-i.invariant.0 k (omega arith)) c.blank-blank.ensures

@@ -1,13 +1,8 @@
-use Rattle.std.proofs.Common.{◌+◌, set, sym, ◌∙◌, ap₂, arith}
-use lib.Seq.{paste-zero}
+use Rattle.std.proofs.Common.{◌+◌, set, ◌∙◌, ap₂, arith}
 use Rattle.std.proofs.lemmas.List.Edits.{paste_more}
-use Rattle.std.proofs.lemmas.Bool.{le-leb}
 use Rattle.lines.specs.Ring.{held}
-use Rattle.lines.proofs.Runs.{poke_all, kept_same, kept_then}
+use Rattle.lines.proofs.Places.{kept_then}
 use Rattle.lines.proofs.ring.Ring.poke.Goals as goal
-
-pub loop-j-init : goal.loop-j-init
-loop-j-init g c = (paste-zero (held c.args.self.now) c.args.from c.args.run.now, kept_same _ _)
 
 pub loop-j-preserved : goal.loop-j-preserved
 loop-j-preserved g c =
@@ -16,11 +11,3 @@ loop-j-preserved g c =
           ∙ paste_more es c.args.from c.args.run.now c.loop-j.j c.index-run-j.result (omega (arith, c.len-len.ensures, c.if-from-len.false, c.if-run-len.false, c.loop-j-test.true)) c.loop-j-test.true,
       kept_then _ _ _ _ c.loop-j.invariant.1 c.replace.ensures.keeps,
     )
-
-pub returns : goal.returns
-returns g c =
-    record {
-      fits = sym (le-leb _ _ (omega (arith, c.len-len.ensures, c.if-from-len.false, c.if-run-len.false)));
-      holds = c.loop-j.invariant.0 ∙ poke_all (held c.args.self.now) c.args.run.now c.args.from c.loop-j.j (omega (arith, c.loop-j.auto.j-end, c.loop-j-test.false));
-      keeps = c.loop-j.invariant.1;
-    }

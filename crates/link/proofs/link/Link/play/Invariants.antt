@@ -10,4 +10,3 @@ invariant-loop-call g l =
     (run (model g.L.Line.meaning l.self) (map meant (drop l.call-index l.calls))
     ≡ run (model g.L.Line.meaning l.initial.self) (map meant l.calls))
     × (g.L.Line.beyond l.self.line ≡ g.L.Line.beyond l.initial.self.line)
-    × (g.L.Line.tidy l.initial.self.line → g.L.Line.tidy l.self.line)

@@ -1,24 +1,24 @@
-use Rattle.std.proofs.Common.{◌≡◌, [], ◌∙◌, ap₂, arith}
-use Rattle.frames.specs.Parts.{parts}
-use Rattle.stations.specs.Puts.{status}
+use Rattle.std.proofs.Common.{◌≡◌, suc, ap, ◌∙◌, ap₂, arith}
+use Rattle.frames.specs.declared.way.Way.TheVariants.{Two}
+use Rattle.lines.specs.Entries.{Lists, with_way}
+use Rattle.stations.specs.Counts.{all_of}
+use Rattle.stations.specs.Puts.{put, status, again, again_tries, counts}
 use Rattle.stations.specs.Views.{station_of}
-use Rattle.stations.proofs.Resends.{answered_counts, answered_line}
+use Rattle.stations.proofs.Resends.{put_grows, again_grows, counts_more}
 use Rattle.stations.proofs.secondary.Secondary.answer_poll.Goals as goal
 
-pub returns : goal.returns
-returns g c =
-    let m = g.L.Line.meaning in
-    let l = m c.args.line.now in
-    let k = m c.deliver-status.new.line in
+pub returns-clause-answers : goal.returns-clause-answers
+returns-clause-answers g c =
+    let l = g.L.Line.meaning c.args.line.now in
+    let k = g.L.Line.meaning c.deliver.new.line in
     let x = station_of c.args.self.now.station in
-    let p = parts c.own_status.result 0 c.expected.result 1 [] in
-    let e : p ≡ status x = ap₂ (λ q r. parts q 0 r 1 []) c.own_status.ensures c.expected.ensures.is in
-    record {
-      answers =
-          answered_counts l k (m c.again-blocks.new.line) x p e c.deliver-status.ensures.leaves c.deliver-status.result c.again-blocks.result
-          c.deliver-status.ensures.answers c.again-blocks.ensures.answers;
-      few = record { put = omega (arith, c.deliver-status.ensures.few, c.again-blocks.ensures.few); lost = omega (arith, c.deliver-status.ensures.few, c.again-blocks.ensures.few) };
-      puts = answered_line l k (m c.again-blocks.new.line) x p e c.deliver-status.ensures.leaves c.again-blocks.ensures.leaves;
-      keeps = c.again-blocks.ensures.keeps ∙ c.deliver-status.ensures.keeps;
-      tidy = λ t. c.again-blocks.ensures.tidy (c.deliver-status.ensures.tidy t);
-    }
+    let es = put l.capacity l.two (status x) in
+    let f : k ≡ with_way Two es l =
+    c.deliver.ensures.leaves ∙ ap (λ p. with_way Two (put l.capacity l.two p) l) c.status.ensures in
+    let a : c.deliver.result ≡ counts 1 l.two es =
+    c.deliver.ensures.answers ∙ ap (λ p. counts 1 l.two (put l.capacity l.two p)) c.status.ensures in
+    let b : c.again.result ≡ counts (again_tries x) es (again l.capacity x es) =
+    c.again.ensures.answers ∙ ap (λ (q : Lists). counts (again_tries x) q.two (again q.capacity x q.two)) f in
+    c.add.ensures ∙ ap₂ all_of a b
+    ∙ counts_more 1 (again_tries x) (suc (again_tries x)) l.two es (again l.capacity x es) (put_grows l.capacity l.two (status x))
+    (again_grows l.capacity x es) (omega arith)
