@@ -37,6 +37,7 @@ fn run(rt: &HostRuntime) -> io::Result<bool> {
 }
 
 // Ends with status 1 where a line was not understood, or where reading or writing failed, which is reported.
+// (Written in each program, since two programs share no crate but the libraries.)
 fn main(rt: HostRuntime) -> io::Result<ExitCode> {
     if run(&rt)? {
         Ok(ExitCode::SUCCESS)

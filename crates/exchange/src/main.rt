@@ -45,6 +45,7 @@ fn run(rt: &HostRuntime) -> io::Result<bool> {
 }
 
 // Ends with status 1 where the older module may not be pulled, or where writing failed, which is reported.
+// (Written in each program, since two programs share no crate but the libraries.)
 fn main(rt: HostRuntime) -> io::Result<ExitCode> {
     if run(&rt)? {
         Ok(ExitCode::SUCCESS)

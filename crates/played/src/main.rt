@@ -47,6 +47,7 @@ fn run(rt: &HostRuntime) -> io::Result<bool> {
 }
 
 // Ends with status 1 where a case is bad, or where writing failed, which is reported.
+// (Written in each program, since two programs share no crate but the libraries.)
 fn main(rt: HostRuntime) -> io::Result<ExitCode> {
     if run(&rt)? {
         Ok(ExitCode::SUCCESS)
