@@ -1,8 +1,10 @@
 -- Octets that the library's hexadecimal text stands for, in the words of Hex.antt.
 use Rattle.std.proofs.Common.{MatchResult, is_ok, cond, ◌≡◌, ℕ, zero, suc, ◌+◌, ◌*◌, ◌/◌, ◌%◌, ◌<◌, ◌==◌, Bool, true, false, ◌&&◌, inl, inr, List, [], ◌∷◌, length, get_or, slice_index, Some, None, Option, Ok, Err, Result, sym, refl, ap, ◌∙◌, ap₂, arith}
-use Rattle.std.proofs.lemmas.Bool.{and_parts, cases_lt, eqb-true}
+use Rattle.std.proofs.lemmas.Bool.{true≢false, and_parts, cases_lt, eqb-true}
 use Rattle.std.proofs.lemmas.Bool.Decides.{nat_tests}
 use Rattle.std.specs.Bool.{then_some}
+use Rattle.std.specs.Char.{is_ascii_hexdigit}
+use Rattle.std.specs.List.{list_all}
 use Rattle.std.specs.Option.{option_map}
 use Rattle.std.specs.Result.{result_ok}
 use Rattle.hex.proofs.Pairs.{decode_sized-pairs}
@@ -69,6 +71,31 @@ odd_spelled : (ds : List ℕ) → length ds % 2 ≡ 1 → spelled ds ≡ None
 odd_spelled [] h = absurd (omega arith)
 odd_spelled (d ∷ []) h = refl
 odd_spelled (h ∷ l ∷ rest) odd = ap (before (octet_answer h l)) (odd_spelled rest (omega arith)) ∙ before_none (octet_answer h l)
+
+-- a digit that is none spells nothing, wherever it stands
+not_digit : (o : ℕ) → is_ascii_hexdigit o ≡ false → digit_value o ≡ None
+not_digit o h = grind (arith, nat_tests)
+
+octet_none : (o : Option ℕ) → octet_by o None ≡ None
+octet_none None = refl
+octet_none (Some o) = refl
+
+wrong_pair : (h l : ℕ) (rest : List ℕ) (a b : Bool)
+    → is_ascii_hexdigit h ≡ a
+    → is_ascii_hexdigit l ≡ b
+    → (a && (b && list_all is_ascii_hexdigit rest)) ≡ false
+    → (list_all is_ascii_hexdigit rest ≡ false → spelled rest ≡ None)
+    → before (octet_answer h l) (spelled rest) ≡ None
+wrong_pair h l rest false b eh el e behind = ap (λ o. before (octet_by o (digit_value l)) (spelled rest)) (not_digit h eh)
+wrong_pair h l rest true false eh el e behind =
+    ap (λ o. before (octet_by (digit_value h) o) (spelled rest)) (not_digit l el)
+    ∙ ap (λ o. before o (spelled rest)) (octet_none (digit_value h))
+wrong_pair h l rest true true eh el e behind = ap (before (octet_answer h l)) (behind e) ∙ before_none (octet_answer h l)
+
+pub wrong_spelled : (ds : List ℕ) → list_all is_ascii_hexdigit ds ≡ false → spelled ds ≡ None
+wrong_spelled [] h = absurd (true≢false h)
+wrong_spelled (d ∷ []) h = refl
+wrong_spelled (h ∷ l ∷ rest) e = wrong_pair h l rest (is_ascii_hexdigit h) (is_ascii_hexdigit l) refl refl e (wrong_spelled rest)
 
 odd_read : (ds : List ℕ) (n : ℕ) → length ds % 2 ≡ 1 → decode_sized ds n ≡ Err OddLength
 odd_read ds n odd = grind (arith)

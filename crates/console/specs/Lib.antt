@@ -4,3 +4,4 @@ pub mod Hex
 pub mod Commands
 pub mod Answers
 pub mod Faults
+pub mod Turns

@@ -1,5 +1,5 @@
 -- A line's words: runs of octets between ASCII white space.
-use Rattle.std.specs.Prelude.{ℕ, Bool, not, ◌&&◌, ◌||◌, List, take, drop, ◌==◌, nat_le}
+use Rattle.std.specs.Prelude.{ℕ, Bool, true, not, ◌&&◌, ◌||◌, List, [], ◌∷◌, take, drop, ◌==◌, nat_le}
 use Rattle.std.specs.List.{prefix_len}
 
 -- white space: tab, line feed, VT, FF, CR and the space
@@ -23,3 +23,11 @@ first_word os = solid (trimmed os)
 
 abbrev pub after_word : List ℕ → List ℕ
 after_word os = behind (trimmed os)
+
+-- a line whose first word is none or begins with '#' asks for nothing
+abbrev pub idle_word : List ℕ → Bool
+idle_word [] = true
+idle_word (o ∷ os) = o == 35
+
+abbrev pub asks_nothing : List ℕ → Bool
+asks_nothing os = idle_word (first_word os)

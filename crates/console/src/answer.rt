@@ -1,12 +1,15 @@
 // Answers: the one line that the console writes for a command.
-ghost use Rattle.std.specs.Prelude.{◌≡◌, IfOk, string_bytes};
+ghost use Rattle.std.specs.Prelude.{◌≡◌, true, IfOk, string_bytes};
 ghost use Rattle.frames.specs.Parts.{given};
 ghost use Rattle.frames.specs.Reader.{read_answer};
 ghost use Rattle.frames.specs.Writer.{frame_octets};
 ghost use Rattle.console.specs.Faults.{words_of};
+ghost use Rattle.console.specs.Words.{asks_nothing};
+ghost use Rattle.console.specs.Turns.{silent, written};
 ghost use Rattle.console.specs.Answers.{octets_text, error_text, numbered_text, frame_text, refusal_text, read_text, write_text};
 
-use crate::command::FrameCommand;
+use crate::command::{Command, FrameCommand, Setup, parse};
+use crate::error::CommandError;
 use crate::fault::Fault;
 use crate::octets;
 use frames::{FrameRefusal, Kind, Parts, Way};
@@ -87,9 +90,53 @@ pub fn error_text(heap: Global, fault: Fault) -> Result<String, AllocError>
 }
 
 // The answer to a command that asks for a frame's octets or its parts.
-pub fn frame_answer(heap: Global, command: FrameCommand) -> Result<String, AllocError> {
+fn frame_answer(heap: Global, command: FrameCommand) -> Result<String, AllocError> {
     match command {
         FrameCommand::Read(way, octets) => read_text(heap, way, octets.as_slice()),
         FrameCommand::Write(draft) => write_text(heap, draft.way, draft.parts()),
+    }
+}
+
+// What a line comes to.
+#[derive(Drop)]
+pub enum Turn {
+    // Nothing is written, for a blank line or a comment.
+    Silent,
+    // The answer to a command.
+    Answer(String),
+    // What is wrong with a line that cannot be understood.
+    Error(String),
+    // Something new is to stand.
+    Stand(Setup),
+    // The line is for what stands.
+    Other,
+}
+
+// What is written for an answer, or in place of one.
+pub fn told(heap: Global, answer: Result<String, CommandError>) -> Result<Turn, AllocError>
+    ensures { IfOk result (λ t. written t ≡ true) }
+{
+    let fault = matches!(&answer, Err(CommandError::Fault(_)));
+    let text = match answer {
+        Ok(text) => text,
+        Err(error) => error.text(heap)?,
+    };
+    Ok(if fault {
+        Turn::Error(text)
+    } else {
+        Turn::Answer(text)
+    })
+}
+
+// What a line comes to, whatever stands. The session and the tests take a line apart by this one function.
+pub fn turn_of(heap: Global, text: &[u8]) -> Result<Turn, AllocError>
+    ensures { IfOk result (λ t. silent t ≡ asks_nothing text.now) }
+{
+    match parse(heap, text) {
+        Ok(None) => Ok(Turn::Silent),
+        Ok(Some(Command::Frame(command))) => Ok(Turn::Answer(frame_answer(heap, command)?)),
+        Ok(Some(Command::Stand(setup))) => Ok(Turn::Stand(setup)),
+        Ok(Some(Command::Other)) => Ok(Turn::Other),
+        Err(error) => told(heap, Err(error)),
     }
 }

@@ -1,6 +1,7 @@
 // The words of a line, taken one at a time from the left.
 ghost use Rattle.std.specs.Prelude.{◌≡◌};
 ghost use Rattle.console.specs.Commands.{named, way_answer, kind_answer, end_answer};
+ghost use Rattle.console.specs.Words.{first_word};
 
 use crate::decimal::{decimal, octet, pair};
 use crate::error::CommandError;
@@ -53,12 +54,16 @@ pub struct Arguments<'a> {
 }
 
 impl<'a> Arguments<'a> {
-    pub fn new(line: &'a [u8]) -> Arguments<'a> {
+    pub fn new(line: &'a [u8]) -> Arguments<'a>
+        ensures { result.rest.now ≡ line.now }
+    {
         Arguments { rest: line }
     }
 
     // The next word, empty where there is none. (An Option would be no plainer: a missing word is refused as a wrong one is.)
-    pub fn word(&mut self) -> &'a [u8] {
+    pub fn word(&mut self) -> &'a [u8]
+        ensures { result.now ≡ first_word self.old.rest.now }
+    {
         let (word, rest) = split_word(self.rest);
         self.rest = rest;
         word

@@ -1,4 +1,8 @@
 // Commands: what a line of words asks for.
+ghost use Rattle.std.specs.Prelude.{◌≡◌};
+ghost use Rattle.console.specs.Words.{asks_nothing};
+ghost use Rattle.console.specs.Turns.{parsed_nothing};
+
 use crate::arguments::Arguments;
 use crate::error::CommandError;
 use crate::fault::Fault;
@@ -150,7 +154,9 @@ fn link_setup(words: &mut Arguments<'_>) -> Result<Setup, Fault> {
 }
 
 // The command of a line, none where the line is blank or a comment.
-pub fn parse(heap: Global, text: &[u8]) -> Result<Option<Command>, CommandError> {
+pub fn parse(heap: Global, text: &[u8]) -> Result<Option<Command>, CommandError>
+    ensures { parsed_nothing result ≡ asks_nothing text.now }
+{
     let mut words = Arguments::new(text);
     let command = match words.word() {
         [] | [b'#', ..] => return Ok(None),

@@ -9,6 +9,10 @@ use std::alloc::{AllocError, Global};
 fn spelled(heap: Global, digits: &[u8]) -> Result<Option<Vec<u8>>, AllocError>
     ensures { IfOk result (λ o. option_map vec_items o ≡ spelled digits.now) }
 {
+    // Looked at first, so that a word with a wrong digit takes no memory.
+    if !digits.iter().all(|digit| digit.is_ascii_hexdigit()) {
+        return Ok(None);
+    }
     let mut octets = vec![in heap; 0; digits.len() / 2]?;
     let spelled = hex::decode_to_slice(digits, octets.as_mut_slice());
     Ok(spelled.is_ok().then_some(octets))

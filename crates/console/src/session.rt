@@ -1,11 +1,11 @@
 // A session: where commands are read from and answers are written to.
-use crate::answer::frame_answer;
-use crate::command::{Command, Setup, parse};
+use crate::answer::{Turn, told, turn_of};
+use crate::command::Setup;
 use crate::error::CommandError;
 use link::LinkRefusal;
 use std::alloc::Global;
 use std::io;
-use std::io::{BufRead, BufReader, Split, Stdin, Stdout, Write};
+use std::io::{BufRead, BufReader, Stdin, Stdout, Write};
 
 // Where answers are written to, and whether every line so far was understood.
 #[derive(Drop)]
@@ -17,7 +17,9 @@ pub struct Replies {
 
 #[derive(Drop)]
 pub struct Session {
-    lines: Split<BufReader<Stdin>>,
+    input: BufReader<Stdin>,
+    // The line that was read last. Its memory serves every line.
+    line: Vec<u8>,
     replies: Replies,
 }
 
@@ -27,24 +29,30 @@ fn made_text(heap: Global, made: Result<(), LinkRefusal>) -> Result<String, Comm
 }
 
 impl Replies {
-    // Writes an answer, or what stands in its place, by itself, so that a person at a terminal sees it at once.
-    fn reply(&mut self, answer: Result<String, CommandError>) -> io::Result<()> {
-        if matches!(&answer, Err(CommandError::Fault(_))) {
-            self.understood = false;
-        }
-        let text = match answer {
-            Ok(text) => text,
-            Err(error) => error.text(self.heap)?,
-        };
+    // Writes a text by itself, so that a person at a terminal sees it at once.
+    fn write(&mut self, text: &String) -> io::Result<()> {
         self.output.write_all(text.as_bytes())?;
         self.output.flush()
+    }
+
+    // Writes what a line came to, if that is a text.
+    fn show(&mut self, turn: Turn) -> io::Result<()> {
+        match turn {
+            Turn::Answer(text) => self.write(&text),
+            Turn::Error(text) => {
+                self.understood = false;
+                self.write(&text)
+            }
+            Turn::Silent | Turn::Stand(_) | Turn::Other => Ok(()),
+        }
     }
 }
 
 impl Session {
     pub fn new(rt: &HostRuntime) -> io::Result<Session> {
         Ok(Session {
-            lines: BufReader::new(rt.alloc(), rt.stdin())?.split(rt.alloc(), b'\n'),
+            input: BufReader::new(rt.alloc(), rt.stdin())?,
+            line: Vec::new(rt.alloc()),
             replies: Replies {
                 heap: rt.alloc(),
                 output: rt.stdout(),
@@ -60,8 +68,14 @@ impl Session {
 
     // Tells whether what was asked for was made.
     pub fn made(&mut self, made: Result<(), LinkRefusal>) -> io::Result<()> {
-        let answer = made_text(self.replies.heap, made);
-        self.replies.reply(answer)
+        let heap = self.replies.heap;
+        self.replies.show(told(heap, made_text(heap, made))?)
+    }
+
+    // Reads the next line, and tells whether there was one.
+    fn read(&mut self) -> io::Result<bool> {
+        self.line.clear();
+        Ok(self.input.read_until(b'\n', &mut self.line)? != 0)
     }
 
     // Answers line after line, until something new is to stand or the input ends. What stands answers the commands that
@@ -72,18 +86,19 @@ impl Session {
         requires { F.IsAlwaysCallable standing }
     {
         let heap = self.replies.heap;
-        for line in self.lines.by_ref() {
-            let line = line?;
-            let text = line.as_slice();
-            let answer = match parse(heap, text) {
-                Ok(None) => continue,
-                Ok(Some(Command::Stand(setup))) => return Ok(Some(setup)),
-                Ok(Some(Command::Frame(command))) => Ok(frame_answer(heap, command)?),
-                Ok(Some(Command::Other)) => standing(heap, text),
-                // Handed on in an arm, since a function with `?` could not end the loop as the arms above do.
-                Err(error) => Err(error),
+        // No `for` over `split`: that takes new memory for each line.
+        for _ in 0..u64::MAX {
+            if !self.read()? {
+                break;
+            }
+            let text = self.line.as_slice();
+            let turn = match turn_of(heap, text)? {
+                Turn::Silent => continue,
+                Turn::Stand(setup) => return Ok(Some(setup)),
+                Turn::Other => told(heap, standing(heap, text))?,
+                turn => turn,
             };
-            self.replies.reply(answer)?;
+            self.replies.show(turn)?;
         }
         Ok(None)
     }

@@ -1,7 +1,5 @@
 // Lines and their replies: where nothing stands, where a line stands, where a link stands.
-use crate::answer::frame_answer;
-use crate::command::{Command, parse};
-use crate::error::CommandError;
+use crate::answer::{Turn, told, turn_of};
 use crate::line_answer::line_answer;
 use crate::link_answer::link_answer;
 use crate::serve::nothing_answer;
@@ -26,25 +24,22 @@ const MASK: &'static str = "!error: the mask must be a decimal number from 0 to 
 
 const TOO_MANY: &'static str = "!error: too many words\n";
 
-// The text of an answer, that of a fault behind `!`.
-fn told(heap: Global, answer: Result<String, CommandError>) -> Result<String, Fail> {
-    let fault = matches!(&answer, Err(CommandError::Fault(_)));
-    let text = match answer {
-        Ok(text) => text,
-        Err(error) => error.text(heap)?,
-    };
-    let mark = if fault { "!" } else { "" };
-    Ok(format!(in heap; "{mark}{text}")?)
+// What a line came to as text: an error's behind `!`, and `.` for none.
+fn text_of(heap: Global, turn: Turn) -> Result<String, Fail> {
+    match turn {
+        Turn::Silent => Ok(String::from_str(heap, ".")?),
+        Turn::Answer(text) => Ok(text),
+        Turn::Error(text) => Ok(format!(in heap; "!{text}")?),
+        Turn::Stand(_) => Ok(String::from_str(heap, "stands")?),
+        Turn::Other => Ok(String::from_str(heap, "other")?),
+    }
 }
 
-// The same where nothing stands, `.` for no answer. (A session takes a line apart so too, but reads it from the input.)
+// The same where nothing stands.
 fn told_alone(heap: Global, line: &[u8]) -> Result<String, Fail> {
-    match parse(heap, line) {
-        Ok(None) => Ok(String::from_str(heap, ".")?),
-        Ok(Some(Command::Stand(_))) => Ok(String::from_str(heap, "stands")?),
-        Ok(Some(Command::Frame(command))) => Ok(frame_answer(heap, command)?),
-        Ok(Some(Command::Other)) => told(heap, nothing_answer(heap, line)),
-        Err(error) => told(heap, Err(error)),
+    match turn_of(heap, line)? {
+        Turn::Other => text_of(heap, told(heap, nothing_answer(heap, line))?),
+        turn => text_of(heap, turn),
     }
 }
 
@@ -186,7 +181,7 @@ fn line_stands(rt: HostRuntime) -> Result<(), Fail> {
     let mut two = [Record::blank(); 8];
     let mut line = TableLine::make(8, 2, &mut one, &mut two);
     expect_all(&rt, &lines, |heap, text| {
-        told(heap, line_answer(heap, text, &mut line))
+        text_of(heap, told(heap, line_answer(heap, text, &mut line))?)
     })
 }
 
@@ -216,7 +211,7 @@ fn link_stands(rt: HostRuntime) -> Result<(), Fail> {
     let line = TableLine::make(8, 2, &mut one, &mut two);
     let mut link = Link::make(line, 5);
     expect_all(&rt, &lines, |heap, text| {
-        told(heap, link_answer(heap, text, &mut link))
+        text_of(heap, told(heap, link_answer(heap, text, &mut link))?)
     })
 }
 
@@ -285,6 +280,6 @@ fn drains(rt: HostRuntime) -> Result<(), Fail> {
     let line = TableLine::make(8, 2, &mut one, &mut two);
     let mut link = Link::make(line, 5);
     expect_all(&rt, &lines, |heap, text| {
-        told(heap, link_answer(heap, text, &mut link))
+        text_of(heap, told(heap, link_answer(heap, text, &mut link))?)
     })
 }

@@ -1,11 +1,22 @@
-use Rattle.std.proofs.Common.{◌≡◌, ◌/◌, Bool, cond, length, Some, None, ap, ◌∙◌, rules}
+use Rattle.std.proofs.Common.{◌≡◌, ◌/◌, Bool, false, cond, length, Some, None, sym, ap, ◌∙◌, rules, tests}
+use Rattle.std.proofs.lemmas.Iterator.{YieldsList-from_slice}
+use Rattle.std.proofs.lemmas.Iterator.Search.{all_from_yields_List}
 use Rattle.std.proofs.lemmas.List.{take_at}
+use Rattle.std.specs.Char.{is_ascii_hexdigit}
+use Rattle.std.specs.List.{list_all}
 use Rattle.std.specs.Option.{option_map}
 use Rattle.std.specs.Result.{result_ok}
 use Rattle.std.specs.Vec.{vec_items, with_items}
 use Rattle.hex.specs.Hex.{decode_sized}
-use Rattle.console.proofs.Spelling.{read, given, kept}
+use Rattle.console.proofs.Spelling.{wrong_spelled, read, given, kept}
 use Rattle.console.proofs.octets.spelled.Goals as goal
+
+pub returns-then-not-all : goal.returns-then-not-all
+returns-then-not-all c =
+    let ds = c.args.digits.now in
+    let all : c.all.result ≡ list_all is_ascii_hexdigit ds = all_from_yields_List is_ascii_hexdigit _ _ c.all.result c.all.ensures.ran (YieldsList-from_slice ds cc) (λ x b q k. search (rules, tests)) in
+    let wrong : list_all is_ascii_hexdigit ds ≡ false = sym all ∙ search (rules, tests) in
+    sym (wrong_spelled ds wrong)
 
 pub returns : goal.returns
 returns c =
