@@ -51,8 +51,12 @@ pub fn show_exchange<L: Line + Drop>(rt: &HostRuntime, line: L) -> io::Result<bo
     let mut unit = Unit::new(rt.alloc())?;
     let whole = show_connections(rt, &mut unit, &mut link)?;
     let may = whole && unit.carried();
-    println!(rt; "in all: {}", unit.tally)?;
-    println!(rt; "the older module may be pulled: {}", Answer(may))?;
+    // One write for both lines.
+    print!(rt;
+        "in all: {}\nthe older module may be pulled: {}\n",
+        unit.tally,
+        Answer(may)
+    )?;
     Ok(may)
 }
 
