@@ -13,12 +13,13 @@ mod calls;
 mod store;
 
 // One way: a ring of whole records. Slots that hold nothing are zero, and so are octets behind a frame in its record.
+// (The facts are public, for clauses of other crates.)
 #[derive(Drop)]
 pub struct OctetStore<'a> {
     ring: Ring<'a, u8>,
-    ghost even: { length (held ring) % 72 ≡ 0 },
-    ghost free: { Blanked 0 ring } by { Prim.hlevel props },
-    ghost neat: { AllByRecursion Neat (records ring) } by { Prim.hlevel props },
+    pub ghost even: { length (held ring) % 72 ≡ 0 },
+    pub ghost free: { Blanked 0 ring } by { Prim.hlevel props },
+    pub ghost neat: { AllByRecursion Neat (records ring) } by { Prim.hlevel props },
 }
 
 pub type OctetLine<'a, 'b> = TwoWay<OctetStore<'a>, OctetStore<'b>>;

@@ -9,11 +9,11 @@ use crate::{Record, Ring};
 mod calls;
 mod store;
 
-// One way: a ring of records. Slots that hold nothing are blank.
+// One way: a ring of records. Slots that hold nothing are blank. (The fact is public, for clauses of other crates.)
 #[derive(Drop)]
 pub struct RecordStore<'a> {
     ring: Ring<'a, Record>,
-    ghost free: { Blanked blank_record ring } by { Prim.hlevel props },
+    pub ghost free: { Blanked blank_record ring } by { Prim.hlevel props },
 }
 
 pub type TableLine<'a, 'b> = TwoWay<RecordStore<'a>, RecordStore<'b>>;

@@ -11,7 +11,8 @@ use frames::{Parts, Way};
 use lines::Line;
 
 // Puts a frame that can be written. The line and its way are two parameters here and in `Station`: a struct of both
-// would have to lend the line anew at each call.
+// would have to lend the line anew at each call. Inlined: most frames are known but for their numbers.
+#[inline(always)]
 pub(crate) fn deliver<L: Line>(line: &mut L, way: Way, frame: Parts<'_>) -> Counts
     requires { is_ok (admit_answer way (given frame)) ≡ true }
     ensures answers { result ≡ counts 1 (on way (L.Line.meaning line.old)) (put (L.Line.meaning line.old).capacity (on way (L.Line.meaning line.old)) (given frame.entry)) }

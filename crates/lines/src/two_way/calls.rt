@@ -26,6 +26,8 @@ impl<A: Store, B: Store> Line for TwoWay<A, B> {
 
     ghost beyond = { λ t. (A.rest t.one, B.rest t.two) };
 
+    // Put and take are inlined: a caller knows most of what it puts and asks.
+    #[inline(always)]
     fn put(&mut self, way: Way, frame: Parts<'_>) -> Result<(), LineRefusal> {
         if !self.sound() {
             admit(way, frame)?;
@@ -37,6 +39,7 @@ impl<A: Store, B: Store> Line for TwoWay<A, B> {
         }
     }
 
+    #[inline(always)]
     #[tactic(auto, using(crate::proofs::Stores::takes))]
     fn take(&mut self, way: Way) -> Result<FrameBuf, LineRefusal> {
         if !self.sound() {

@@ -29,9 +29,12 @@ impl Station {
     pub(crate) fn reset(&mut self)
         ensures { station_of self.new ≡ reset (station_of self.old) }
     {
-        let waiting = self.queue;
-        *self = Station::new();
-        self.queue = waiting;
+        // Field by field: a new station with the old queue in it would copy the queue twice.
+        self.window = Window::new();
+        self.vs = Number::of(0);
+        self.va = Number::of(0);
+        self.vr = Number::of(0);
+        self.far = FarStatus::Ready;
     }
 
     // How many blocks are sent and not acknowledged.
