@@ -8,7 +8,7 @@ use Rattle.link.specs.DrainPromise.{Drainable, KeptThrough, DrainLaw}
 use Rattle.link.proofs.Histories.{run_sound, keep_run}
 use Rattle.link.proofs.Fits.{Fits, fits, fits_run}
 use Rattle.link.proofs.Drains.{drainable}
-use Rattle.link.proofs.Law.{large, wide, short, start, one_empty, two_empty, kept, line_in}
+use Rattle.link.proofs.Law.{large, wide, short, start, one_empty, two_empty, kept}
 
 module _ (ls : Lists) (t : ℕ) (sound : (made ls t).fault ≡ None) where
   start_fits : Fits (made ls t).measures (made ls t).now
@@ -31,7 +31,5 @@ module _ (ls : Lists) (t : ℕ) (sound : (made ls t).fault ≡ None) where
             (drainable l.measures (wide ls t sound) (large ls t sound) (short ls t sound) good.0 (fits_run l (omega (arith, large ls t sound)) sound start_fits calls));
       }
 
-pub drain_law : (l : Model) → l ≡ made (line_in l) l.measures.t → DrainLaw l
-unfolding DrainLaw
-drain_law l e =
-    subst (λ m. m.fault ≡ None → (acts : List Act) → KeptThrough m acts) (sym e) (kept_through (line_in l) l.measures.t)
+pub drain_law : (ls : Lists) (t : ℕ) → DrainLaw (made ls t)
+drain_law ls t sound acts = kept_through ls t sound acts

@@ -1,5 +1,5 @@
 -- The law: a link that its check grants keeps its promise after every list of calls.
-use Rattle.std.proofs.Common.{◌≡◌, ℕ, ◌+◌, ◌*◌, ◌≤◌, Bool, true, false, ◌&&◌, eqb, leb, List, [], ◌∷◌, length, None, Err, sym, refl, ap, subst, arith}
+use Rattle.std.proofs.Common.{◌≡◌, ℕ, ◌+◌, ◌*◌, ◌≤◌, Bool, true, false, ◌&&◌, eqb, leb, List, [], ◌∷◌, length, None, Err, refl, ap, subst, arith}
 use Rattle.std.proofs.lemmas.Bool.{both_ways, leb-true, eqb-true, and_parts}
 use Rattle.lines.specs.Entries.{Entry, Lists}
 use Rattle.stations.specs.declared.mode.Mode.{Mode}
@@ -104,13 +104,5 @@ module _ (ls : Lists) (t : ℕ) (sound : (made ls t).fault ≡ None) where
             numbered good e (subst (λ g. Refuses g (run l calls).now e) (run_measures l calls) is);
       }
 
--- the line that a link has
-abbrev line_of : Measures → State → Lists
-line_of g (state one two m t u p s) = record { one = one; two = two; capacity = g.k; lifetime = g.d }
-
-abbrev pub line_in : Model → Lists
-line_in l = line_of l.measures l.now
-
-pub law : (l : Model) → l ≡ made (line_in l) l.measures.t → Law l
-unfolding Law
-law l e = subst (λ m. m.fault ≡ None → (calls : List Call) → Kept m calls) (sym e) (kept (line_in l) l.measures.t)
+pub law : (ls : Lists) (t : ℕ) → Law (made ls t)
+law ls t sound calls = kept ls t sound calls

@@ -51,5 +51,5 @@ pub record KeptThrough (l : Model) (acts : List Act) : Type 0 where
   pub drains : Drainable (led l acts) (account_after l acts)
 
 -- the law of drains: whatever calls and drains a sound link then meets
-unfoldable pub DrainLaw : Model → Type 0
+abbrev pub DrainLaw : Model → Type 0
 DrainLaw l = l.fault ≡ None → (acts : List Act) → KeptThrough l acts

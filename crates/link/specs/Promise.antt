@@ -42,7 +42,7 @@ pub record Kept (l : Model) (calls : List Call) : Type 0 where
   pub numbered : NeverNumbering (run l calls)
 
 -- the law: whatever calls a sound link then meets
-unfoldable pub Law : Model → Type 0
+abbrev pub Law : Model → Type 0
 Law l = l.fault ≡ None → (calls : List Call) → Kept l calls
 
 -- the same for a link that has met some calls before: whatever its making and its history were, it stands where the

@@ -30,7 +30,6 @@ impl<L: Line> Link<L> {
 
     // A new link: both ends closed, reset, with nothing waiting and no timer. Where its check says yes, it keeps the
     // promise over every list of calls that it then meets.
-    #[tactic(auto, using(crate::proofs::Law::law, crate::proofs::DrainLaws::drain_law))]
     pub fn make(line: L, limit: usize) -> Link<L>
         ensures makes { model L.Line.meaning result ≡ made (L.Line.meaning line) limit }
         ensures law { Law (model L.Line.meaning result) }

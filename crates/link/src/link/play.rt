@@ -14,7 +14,8 @@ use lines::Line;
 use stations::Counts;
 
 impl<L: Line> Link<L> {
-    // One call, and of its answer the refusal or the frames.
+    // One call, and of its answer the refusal or the frames. Inlined, so that a call is not copied on its way.
+    #[inline(always)]
     pub(super) fn obey(&mut self, call: Call) -> Result<Counts, LinkRefusal>
         ensures frames { counts_by result ≡ frames_of (meant call) (model L.Line.meaning self.old) }
         ensures few { FewFrames (counts_by result) }
